@@ -1,0 +1,28 @@
+-- The number of each answer, and the chain by which the first refusal in an order is given.
+-- Assumes nothing.
+use Prim.Native.Nat.{ℕ}
+use mathlib.Core.Bool.{Bool, cond}
+use lib.Dec.{eqb}
+use Rattle.answers.specs.declared.Answer.{Answer}
+use Rattle.answers.specs.declared.Answer.the-variants.{Done, KeyLength, RoundsNumber, TagLength, OverLimit, OutputLength, OtherRevision, EarlierPart, OtherOffset, NotSound, TagDiffers, WidthNumber}
+
+abbrev pub numberOf : Answer → ℕ
+numberOf Done = 0
+numberOf KeyLength = 1
+numberOf RoundsNumber = 2
+numberOf TagLength = 3
+numberOf OverLimit = 4
+numberOf OutputLength = 5
+numberOf OtherRevision = 6
+numberOf EarlierPart = 7
+numberOf OtherOffset = 8
+numberOf NotSound = 9
+numberOf TagDiffers = 10
+numberOf WidthNumber = 11
+
+abbrev pub doneOf : Answer → Bool
+doneOf a = eqb (numberOf a) 0
+
+-- the refusal where its test fails, else what the rest of the chain gives
+unfoldable pub needOf : Bool → Answer → Answer → Answer
+needOf ok refusal rest = cond ok rest refusal

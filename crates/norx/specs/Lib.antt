@@ -1,0 +1,2 @@
+pub mod Norx
+pub mod Front

@@ -1,0 +1,7 @@
+// Runs the published numbers of NORX 3.0 and prints what comes out; the file stdout beside src/ has the published ones.
+
+mod constants;
+
+fn main() {
+    constants::print_all();
+}
