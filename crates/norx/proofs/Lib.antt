@@ -2,6 +2,14 @@ pub mod Xor
 pub mod Bytes
 pub mod Words
 pub mod Rate
+pub mod Slices
+pub mod Overlay
+pub mod Blocks
+pub mod Messages
+pub mod Stream
+pub mod Text
+pub mod Unseal
+pub mod Opening
 pub mod Rotate
 pub mod Steps
 pub mod Constants

@@ -1,2 +1,3 @@
 pub mod Norx
 pub mod Front
+pub mod Stream
