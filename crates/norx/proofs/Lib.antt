@@ -3,6 +3,9 @@ pub mod Bytes
 pub mod Words
 pub mod Rate
 pub mod Slices
+pub mod Loads
+pub mod Owned
+pub mod Replaced
 pub mod Overlay
 pub mod Blocks
 pub mod Messages

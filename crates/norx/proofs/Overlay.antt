@@ -7,12 +7,13 @@ use native.Mathlib.Nat.{zero-lt-suc, le-refl}
 use native.Mathlib.Omega.{arith}
 use lib.Bits.{bitXor, xor-zero-r}
 use lib.ListN.{length, getD, take, drop, replicate, length-append, length-set, replicate-append-replicate}
-use lib.Seq.{take-nil, getD-drop, take-set-le, take-at}
+use lib.Seq.{take-nil, take-length, getD-drop, take-set-le, take-at}
 use Rattle.norx.specs.Norx.{Width, wordBytes, rowBytes, rate, wordOf, run, xors, State, wordAt, rowAt, rowOf, xorRow, xorBlock, rateOf, xorAt, padded}
 use Rattle.norx.specs.Stream.{placed}
 use Rattle.norx.proofs.Xor.{xor-assoc, xors-nil, run-xors, xors-zeros, xorAt-xors}
 use Rattle.norx.proofs.Bytes.{Bytes, zeros, length-zeros, zeros-at, bytes-run, bytes-append, bytes-zeros}
 use Rattle.norx.proofs.Words.{word-xors, length-rateOf}
+use Rattle.norx.proofs.Slices.{drop-replicate}
 use Rattle.norx.proofs.Rate.{rate-add}
 
 -- ---- two blocks, one after the other
@@ -126,6 +127,14 @@ unfolding padded
 take-padded R l h =
     let le : length l ≤ R - 1 = omega arith in
     take-set-le (length l) _ (R - 1) _ le ∙ take-set-le (length l) _ (length l) _ (le-refl (length l)) ∙ take-at l (zeros (R - length l)) (length l) refl
+
+-- as code pads: the bytes copied into zeros, and the two xored in
+pub filled-of : (R : ℕ) (l : List ℕ) {b : List ℕ} → b ≡ take (length l) l ++ drop (length l) (zeros R) → b ≡ l ++ zeros (R - length l)
+filled-of R l e = e ∙ ap₂ (λ (x y : List ℕ). x ++ y) (take-length l) (drop-replicate (length l) R 0)
+
+pub padded-of : (R : ℕ) (l : List ℕ) {b : List ℕ} {k : ℕ} → b ≡ l ++ zeros (R - length l) → k ≡ length l → xorAt (xorAt b k 1) (R - 1) 128 ≡ padded R l
+unfolding padded
+padded-of R l e h = λ i. xorAt (xorAt (e i) (h i) 1) (R - 1) 128
 
 -- the padding of as many zeros
 padded-zeros : (R k : ℕ) → k ≤ R → padded R (zeros k) ≡ xorAt (xorAt (zeros R) k 1) (R - 1) 128

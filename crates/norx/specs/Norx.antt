@@ -181,6 +181,8 @@ constants w = P w 2 (rows (row 0 1 2 3) (row 4 5 6 7) (row 8 9 10 11) (row 12 13
 
 -- ---- Sealing, step by step
 
+-- k and n are the four words of the key and of the nonce
+
 -- the key xored into s12..s15
 unfoldable pub keyed : List ℕ → State → State
 keyed k s = rows (rowAt s 0) (rowAt s 1) (rowAt s 2) (xorRow (rowAt s 3) k)
@@ -188,9 +190,7 @@ keyed k s = rows (rowAt s 0) (rowAt s 1) (rowAt s 2) (xorRow (rowAt s 3) k)
 -- 1. Start: s0..s3 nonce, s4..s7 key, s8..s15 = u8..u15. Then s12, s13, s14, s15 are xored with word width, l, 1, t.
 -- Apply P. Xor the key into s12..s15.
 unfoldable pub start : Width → ℕ → ℕ → List ℕ → List ℕ → State
-start w l t key nonce =
-    keyed (rowOf w key)
-    (P w l (rows (rowOf w nonce) (rowOf w key) (rowAt (constants w) 2) (xorRow (rowAt (constants w) 3) (row (bits w) l 1 t))))
+start w l t k n = keyed k (P w l (rows n k (rowAt (constants w) 2) (xorRow (rowAt (constants w) 3) (row (bits w) l 1 t))))
 
 -- 2. A part of length 0 adds no block. A part of length n > 0 has floor(n/R) full blocks and then always one padded block.
 unfoldable pub blockCount : ℕ → ℕ → ℕ
@@ -249,15 +249,15 @@ unfoldable pub finished : Width → ℕ → List ℕ → State → State
 finished w l k s = keyed k (P w l (keyed k (P w l (marked tagMark s))))
 
 unfoldable pub tagOf : Width → ℕ → ℕ → List ℕ → State → List ℕ
-tagOf w l t key s = take (t / 8) (bytesOfRow w (rowAt (finished w l (rowOf w key) s) 3))
+tagOf w l t k s = take (t / 8) (bytesOfRow w (rowAt (finished w l k s) 3))
 
 module _ (w : Width) (l t : ℕ) (key nonce header : List ℕ) where
   -- the state where the body begins
   unfoldable pub beforeBody : State
-  beforeBody = afterPart w l headerMark (start w l t key nonce) header
+  beforeBody = afterPart w l headerMark (start w l t (rowOf w key) (rowOf w nonce)) header
 
   unfoldable pub tag : List ℕ → List ℕ → List ℕ
-  tag body trailer = tagOf w l t key (afterPart w l trailerMark (afterPart w l bodyMark beforeBody body) trailer)
+  tag body trailer = tagOf w l t (rowOf w key) (afterPart w l trailerMark (afterPart w l bodyMark beforeBody body) trailer)
 
   -- the sealed text is ciphertext followed by tag
   unfoldable pub sealed : List ℕ → List ℕ → List ℕ

@@ -1,0 +1,12 @@
+-- `sponge::w64::blocks::filled` copies the bytes into zeros.
+-- Assumes nothing.
+use borrow.Author.Needs.{needs}
+use Rattle.norx.proofs.Overlay.{filled-of}
+use Rattle.sponge.proofs.w64.blocks.filled.Statement.{statement}
+use Rattle.sponge.proofs.w64.blocks.filled.Tie as tie
+
+returns : tie.Need-returns
+returns c = filled-of 96 (c .before .before .before .before .args .left .now) (c .before .copy .ensures .1)
+
+pub filled-spec : {M : Type 1} → statement M
+filled-spec = tie.close (tie.spec (λ c. search needs) (λ c κs. search needs) returns)

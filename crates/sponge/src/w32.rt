@@ -1,0 +1,5 @@
+// The sponge at 32-bit words.
+mod blocks;
+pub mod ends;
+pub mod parts;
+mod words;

@@ -1,0 +1,88 @@
+// Blocks of 48 bytes: xored into s0..s11, and read back from there.
+ghost use mathlib.Core.Path.{_≡_};
+ghost use mathlib.Core.List.{_++_};
+ghost use Prim.Native.Nat.{_-_, _<_, _≤_};
+ghost use lib.ListN.{length, replicate};
+ghost use Rattle.norx.specs.Norx.{word32, xors, xorBlock, rateOf, marked as markedOf, entered, padded as paddedOf};
+use super::words::load_row;
+use super::words::store_row;
+use super::words::xor_row;
+use permutation::w32::permute;
+
+pub(crate) fn xor_block(s: [[u32; 4]; 4], b: &[u8]) -> [[u32; 4]; 4]
+    requires { ⌜ length (now b) ≡ 48 ⌝ }
+    ensures { λ q. ⌜ q ≡ xorBlock word32 s (now (b .entry)) ⌝ }
+{
+    let r0 = xor_row(s[0], load_row(&b[0..16]));
+    let r1 = xor_row(s[1], load_row(&b[16..32]));
+    let r2 = xor_row(s[2], load_row(&b[32..48]));
+    let r3 = s[3];
+    [r0, r1, r2, r3]
+}
+
+// The state once it took in the message of a full block of ciphertext: the new s0..s11 are that block.
+pub(crate) fn replaced(s: [[u32; 4]; 4], c: &[u8]) -> [[u32; 4]; 4]
+    requires { ⌜ length (now c) ≡ 48 ⌝ }
+    ensures { λ q. ⌜ q ≡ xorBlock word32 s (xors (rateOf word32 s) (now (c .entry))) ⌝ }
+{
+    let r0 = load_row(&c[0..16]);
+    let r1 = load_row(&c[16..32]);
+    let r2 = load_row(&c[32..48]);
+    let r3 = s[3];
+    [r0, r1, r2, r3]
+}
+
+// The bytes of s0..s11.
+pub(crate) fn store_rate(s: [[u32; 4]; 4], b: &mut [u8])
+    requires { ⌜ length (now b) ≡ 48 ⌝ }
+    ensures { λ _. ⌜ now (b .exit) ≡ rateOf word32 s ⌝ }
+{
+    store_row(s[0], &mut b[0..16]);
+    store_row(s[1], &mut b[16..32]);
+    store_row(s[2], &mut b[32..48]);
+}
+
+pub(crate) fn rate_bytes(s: [[u32; 4]; 4]) -> [u8; 48]
+    ensures { λ q. ⌜ q ≡ rateOf word32 s ⌝ }
+{
+    let mut b = [0u8; 48];
+    store_rate(s, &mut b);
+    b
+}
+
+// The left bytes of a part in a block of zeros.
+pub(crate) fn filled(left: &[u8]) -> [u8; 48]
+    requires { ⌜ length (now left) ≤ 48 ⌝ }
+    ensures { λ q. ⌜ q ≡ now (left .entry) ++ replicate (48 - length (now (left .entry))) 0 ⌝ }
+{
+    let mut b = [0u8; 48];
+    bytes::copy(left, &mut b);
+    b
+}
+
+// The padded block: 01 xored into the byte behind the left bytes, and 80 (hexadecimal) into the last.
+pub(crate) fn padded(left: &[u8]) -> [u8; 48]
+    requires { ⌜ length (now left) < 48 ⌝ }
+    ensures { λ q. ⌜ q ≡ paddedOf 48 (now (left .entry)) ⌝ }
+{
+    let mut b = filled(left);
+    let k = left.len();
+    b[k] = b[k] ^ 0x01;
+    b[47] = b[47] ^ 0x80;
+    b
+}
+
+fn marked(s: [[u32; 4]; 4], m: u32) -> [[u32; 4]; 4]
+    ensures { λ q. ⌜ q ≡ markedOf m s ⌝ }
+{
+    let mut t = s;
+    t[3][3] = t[3][3] ^ m;
+    t
+}
+
+// What comes before each block: the mark, and P.
+pub(crate) fn enter(s: [[u32; 4]; 4], rounds: u32, m: u32) -> [[u32; 4]; 4]
+    ensures { λ q. ⌜ q ≡ entered word32 rounds m s ⌝ }
+{
+    permute(marked(s, m), rounds)
+}
