@@ -153,6 +153,10 @@ module _ (w : Width) (l : ℕ) (s : State) (d : List ℕ) where
   pub length-ciphertext : length (ciphertext w l s d) ≡ length d
   length-ciphertext = ap length ciphertext-is ∙ length-byFulls
 
+  -- an empty body has an empty ciphertext
+  pub text-none : length d ≡ 0 → (o : List ℕ) → length o ≡ length d → o ≡ ciphertext w l s d
+  text-none h o e = empty o (e ∙ h) ∙ sym (empty (ciphertext w l s d) (length-ciphertext ∙ h))
+
   -- one full block more, written at its place
   pub text-next : (i : ℕ) → suc i * rate w ≤ length d → (o : List ℕ) {out y : List ℕ} {u : State} {n : ℕ} → out ≡ cipherBlocks w l s d i ++ drop (i * rate w) o
       → u ≡ afterBlocks w l bodyMark s d (i + 1) → y ≡ rateOf w u → n ≡ rate w

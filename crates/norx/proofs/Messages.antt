@@ -14,7 +14,7 @@ use Rattle.norx.proofs.Xor.{length-xors}
 use Rattle.norx.proofs.Slices.{empty, blocks-le, put, put-next}
 use Rattle.norx.proofs.Words.{length-rateOf}
 use Rattle.norx.proofs.Rate.{length-run}
-use Rattle.norx.proofs.Blocks.{rate-pos, fulls, left, left-short, run-left, count-some, after-prefix, after-suc, part-last}
+use Rattle.norx.proofs.Blocks.{rate-pos, fulls, left, left-short, run-left, count-some, after-prefix, after-suc, part-none, part-last}
 
 module _ (w : Width) (l : ℕ) (s : State) (c : List ℕ) where
   -- the state before block i, the mark and P done
@@ -115,6 +115,13 @@ module _ (w : Width) (l : ℕ) (s : State) (c : List ℕ) where
 
   pub length-message : length (message w l s c) ≡ length c
   length-message = ap length message-is ∙ length-byFulls
+
+  -- an empty ciphertext has an empty message, which leaves the state as it is
+  pub message-empty : length c ≡ 0 → (o : List ℕ) → length o ≡ length c → o ≡ message w l s c
+  message-empty h o e = empty o (e ∙ h) ∙ sym (empty (message w l s c) (length-message ∙ h))
+
+  pub state-empty : length c ≡ 0 → s ≡ afterPart w l bodyMark s (message w l s c)
+  state-empty h = part-none w l bodyMark s (message w l s c) (length-message ∙ h)
 
   -- the whole message taken in ends with its bytes left, padded
   state-last : (length c ≡ 0 → ⊥) → xorBlock w (readied (fulls w c)) (padded (rate w) lastBytes) ≡ afterPart w l bodyMark s (message w l s c)

@@ -10,7 +10,7 @@ use lib.ListN.{length, getD, take, drop, replicate, length-append, length-set, r
 use lib.Seq.{take-nil, take-length, getD-drop, take-set-le, take-at}
 use Rattle.norx.specs.Norx.{Width, wordBytes, rowBytes, rate, wordOf, run, xors, State, wordAt, rowAt, rowOf, xorRow, xorBlock, rateOf, xorAt, padded}
 use Rattle.norx.specs.Stream.{placed}
-use Rattle.norx.proofs.Xor.{xor-assoc, xors-nil, run-xors, xors-zeros, xorAt-xors}
+use Rattle.norx.proofs.Xor.{xor-assoc, xors-nil, take-xors, run-xors, xors-zeros, xorAt-xors}
 use Rattle.norx.proofs.Bytes.{Bytes, zeros, length-zeros, zeros-at, bytes-run, bytes-append, bytes-zeros}
 use Rattle.norx.proofs.Words.{word-xors, length-rateOf}
 use Rattle.norx.proofs.Slices.{drop-replicate}
@@ -154,3 +154,13 @@ padded-split R l h =
     ∙ sym (xorAt-xors l (xorAt z (length l) 1) (R - 1) 128 (simp length-set (omega arith)))
     ∙ ap (λ (t : List ℕ). xorAt t (R - 1) 128) (sym (xorAt-xors l z (length l) 1 (omega arith)))
     ∙ ap (λ (t : List ℕ). xorAt (xorAt t (length l) 1) (R - 1) 128) (xors-zeros l R p)
+
+-- the bytes left of a ciphertext in a block of zeros: xored in, they leave their message
+pub recovered-of : (w : Width) (e : State) (x : List ℕ) {b r : List ℕ} {u : State} → length x ≤ rate w → Bytes x → b ≡ x ++ zeros (rate w - length x)
+    → u ≡ xorBlock w e b → r ≡ rateOf w u → take (length x) r ≡ xors (take (length x) (rateOf w e)) x
+recovered-of w e x h hx hb hu hr =
+    let n : ℕ = rate w - length x in
+    let len : length (x ++ zeros n) ≡ rate w = length-append x (zeros n) ∙ omega (arith, length-zeros n) in
+    ap (take (length x))
+    (hr ∙ ap (rateOf w) (hu ∙ ap (xorBlock w e) hb) ∙ rate-add w e (x ++ zeros n) len (bytes-append x (zeros n) hx (bytes-zeros n)))
+    ∙ take-xors (length x) (rateOf w e) (x ++ zeros n) ∙ ap (xors (take (length x) (rateOf w e))) (take-at x (zeros n) (length x) refl)

@@ -30,6 +30,11 @@ rowBytes w = 4 * wordBytes w
 abbrev pub rate : Width → ℕ
 rate w = 12 * wordBytes w
 
+-- the tag bits that the library uses; the definition has t as a parameter
+abbrev pub tagBits : Width → ℕ
+tagBits word32 = 128
+tagBits word64 = 256
+
 -- the rotations
 abbrev pub r0 : Width → ℕ
 r0 word32 = 8

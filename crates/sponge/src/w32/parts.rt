@@ -1,1 +1,177 @@
-// parts
+// Parts of any length: taken in, encrypted, or decrypted.
+ghost use mathlib.Core.Path.{_≡_};
+ghost use mathlib.Core.Bool.{cond};
+ghost use mathlib.Core.List.{_++_};
+ghost use Prim.Native.Nat.{_*_, _/_, _<_};
+ghost use lib.Dec.{eqb};
+ghost use lib.ListN.{length, take, drop};
+ghost use Rattle.norx.specs.Norx.{word32, xors, bodyMark, xorBlock, rateOf, entered, padded as paddedOf, afterBlocks, afterPart, cipherBlocks, ciphertext, messageBlocks, message};
+use super::blocks::enter;
+use super::blocks::filled;
+use super::blocks::padded;
+use super::blocks::rate_bytes;
+use super::blocks::replaced;
+use super::blocks::store_rate;
+use super::blocks::xor_block;
+
+const BODY: u32 = 0x02;
+
+fn absorb_full(s: [[u32; 4]; 4], rounds: u32, m: u32, d: &[u8]) -> [[u32; 4]; 4]
+    ensures { λ q. ⌜ q ≡ afterBlocks word32 rounds m s (now (d .entry)) (length (now (d .entry)) / 48) ⌝ }
+{
+    let mut t = s;
+    let n = d.len() / 48;
+    let mut i = 0;
+    while i < n {
+        let at = i * 48;
+        t = xor_block(enter(t, rounds, m), &d[at..at + 48]);
+        i += 1;
+    }
+    t
+}
+
+// The padded block of the bytes left.
+fn absorb_last(s: [[u32; 4]; 4], rounds: u32, m: u32, left: &[u8]) -> [[u32; 4]; 4]
+    requires { ⌜ length (now left) < 48 ⌝ }
+    ensures { λ q. ⌜ q ≡ xorBlock word32 (entered word32 rounds m s) (paddedOf 48 (now (left .entry))) ⌝ }
+{
+    let b = padded(left);
+    xor_block(enter(s, rounds, m), &b)
+}
+
+// A part taken in with its mark: nothing of an empty one; else its full blocks, and a padded one.
+pub fn absorb(s: [[u32; 4]; 4], rounds: u32, m: u32, d: &[u8]) -> [[u32; 4]; 4]
+    ensures { λ q. ⌜ q ≡ afterPart word32 rounds m s (now (d .entry)) ⌝ }
+{
+    if d.len() == 0 {
+        return s;
+    }
+    let at = d.len() / 48 * 48;
+    absorb_last(absorb_full(s, rounds, m, d), rounds, m, &d[at..])
+}
+
+fn encrypt_full(s: [[u32; 4]; 4], rounds: u32, d: &[u8], out: &mut [u8]) -> [[u32; 4]; 4]
+    requires { ⌜ length (now out) ≡ length (now d) ⌝ }
+    ensures state { λ q. ⌜ q ≡ afterBlocks word32 rounds bodyMark s (now (d .entry)) (length (now (d .entry)) / 48) ⌝ }
+    ensures text { λ _. ⌜ now (out .exit) ≡ cipherBlocks word32 rounds s (now (d .entry)) (length (now (d .entry)) / 48) ++ drop (length (now (d .entry)) / 48 * 48) (now (out .entry)) ⌝ }
+{
+    let mut t = s;
+    let n = d.len() / 48;
+    let mut i = 0;
+    while i < n {
+        let at = i * 48;
+        t = xor_block(enter(t, rounds, BODY), &d[at..at + 48]);
+        store_rate(t, &mut out[at..at + 48]);
+        i += 1;
+    }
+    t
+}
+
+// The padded block of the bytes left, and as many bytes of the new rate.
+fn encrypt_last(s: [[u32; 4]; 4], rounds: u32, left: &[u8], out: &mut [u8]) -> [[u32; 4]; 4]
+    requires { ⌜ (length (now left) < 48) × (length (now out) ≡ length (now left)) ⌝ }
+    ensures state { λ q. ⌜ q ≡ xorBlock word32 (entered word32 rounds bodyMark s) (paddedOf 48 (now (left .entry))) ⌝ }
+    ensures text { λ _. ⌜ now (out .exit) ≡ take (length (now (left .entry))) (rateOf word32 (xorBlock word32 (entered word32 rounds bodyMark s) (paddedOf 48 (now (left .entry))))) ⌝ }
+{
+    let t = absorb_last(s, rounds, BODY, left);
+    let r = rate_bytes(t);
+    let k = left.len();
+    bytes::copy(&r[..k], out);
+    t
+}
+
+fn encrypt_exact(s: [[u32; 4]; 4], rounds: u32, d: &[u8], out: &mut [u8]) -> [[u32; 4]; 4]
+    requires { ⌜ length (now out) ≡ length (now d) ⌝ }
+    ensures state { λ q. ⌜ q ≡ afterPart word32 rounds bodyMark s (now (d .entry)) ⌝ }
+    ensures text { λ _. ⌜ now (out .exit) ≡ ciphertext word32 rounds s (now (d .entry)) ⌝ }
+{
+    if d.len() == 0 {
+        return s;
+    }
+    let at = d.len() / 48 * 48;
+    let t = encrypt_full(s, rounds, d, &mut *out);
+    encrypt_last(t, rounds, &d[at..], &mut out[at..])
+}
+
+// A body taken in, and its ciphertext written; nothing where the output is not as long as the body.
+pub fn encrypt(s: [[u32; 4]; 4], rounds: u32, d: &[u8], out: &mut [u8]) -> [[u32; 4]; 4]
+    ensures state { λ q. ⌜ q ≡ cond (eqb (length (now (out .entry))) (length (now (d .entry)))) (afterPart word32 rounds bodyMark s (now (d .entry))) s ⌝ }
+    ensures text { λ _. ⌜ now (out .exit) ≡ cond (eqb (length (now (out .entry))) (length (now (d .entry)))) (ciphertext word32 rounds s (now (d .entry))) (now (out .entry)) ⌝ }
+{
+    if out.len() == d.len() {
+        encrypt_exact(s, rounds, d, out)
+    } else {
+        s
+    }
+}
+
+// A full block of ciphertext: its message is written, and taken in.
+fn decrypt_block(e: [[u32; 4]; 4], c: &[u8], out: &mut [u8]) -> [[u32; 4]; 4]
+    requires { ⌜ (length (now c) ≡ 48) × (length (now out) ≡ 48) ⌝ }
+    ensures state { λ q. ⌜ q ≡ xorBlock word32 e (xors (rateOf word32 e) (now (c .entry))) ⌝ }
+    ensures text { λ _. ⌜ now (out .exit) ≡ xors (rateOf word32 e) (now (c .entry)) ⌝ }
+{
+    store_rate(xor_block(e, c), out);
+    replaced(e, c)
+}
+
+fn decrypt_full(s: [[u32; 4]; 4], rounds: u32, c: &[u8], out: &mut [u8]) -> [[u32; 4]; 4]
+    requires { ⌜ length (now out) ≡ length (now c) ⌝ }
+    ensures state { λ q. ⌜ q ≡ afterBlocks word32 rounds bodyMark s (messageBlocks word32 rounds s (now (c .entry)) (length (now (c .entry)) / 48)) (length (now (c .entry)) / 48) ⌝ }
+    ensures text { λ _. ⌜ now (out .exit) ≡ messageBlocks word32 rounds s (now (c .entry)) (length (now (c .entry)) / 48) ++ drop (length (now (c .entry)) / 48 * 48) (now (out .entry)) ⌝ }
+{
+    let mut t = s;
+    let n = c.len() / 48;
+    let mut i = 0;
+    while i < n {
+        let at = i * 48;
+        let u = decrypt_block(
+            enter(t, rounds, BODY),
+            &c[at..at + 48],
+            &mut out[at..at + 48],
+        );
+        t = u;
+        i += 1;
+    }
+    t
+}
+
+// The bytes left: their message is written, and taken in with its padding.
+fn decrypt_last(s: [[u32; 4]; 4], rounds: u32, left: &[u8], out: &mut [u8]) -> [[u32; 4]; 4]
+    requires { ⌜ (length (now left) < 48) × (length (now out) ≡ length (now left)) ⌝ }
+    ensures state { λ q. ⌜ q ≡ xorBlock word32 (entered word32 rounds bodyMark s) (paddedOf 48 (xors (take (length (now (left .entry))) (rateOf word32 (entered word32 rounds bodyMark s))) (now (left .entry)))) ⌝ }
+    ensures text { λ _. ⌜ now (out .exit) ≡ xors (take (length (now (left .entry))) (rateOf word32 (entered word32 rounds bodyMark s))) (now (left .entry)) ⌝ }
+{
+    let e = enter(s, rounds, BODY);
+    let b = filled(left);
+    let r = rate_bytes(xor_block(e, &b));
+    let k = left.len();
+    bytes::copy(&r[..k], &mut *out);
+    let p = padded(out);
+    xor_block(e, &p)
+}
+
+fn decrypt_exact(s: [[u32; 4]; 4], rounds: u32, c: &[u8], out: &mut [u8]) -> [[u32; 4]; 4]
+    requires { ⌜ length (now out) ≡ length (now c) ⌝ }
+    ensures state { λ q. ⌜ q ≡ afterPart word32 rounds bodyMark s (message word32 rounds s (now (c .entry))) ⌝ }
+    ensures text { λ _. ⌜ now (out .exit) ≡ message word32 rounds s (now (c .entry)) ⌝ }
+{
+    if c.len() == 0 {
+        return s;
+    }
+    let at = c.len() / 48 * 48;
+    let t = decrypt_full(s, rounds, c, &mut *out);
+    decrypt_last(t, rounds, &c[at..], &mut out[at..])
+}
+
+// The message of a body's ciphertext written, and taken in; nothing where the output is not as long as the ciphertext.
+pub fn decrypt(s: [[u32; 4]; 4], rounds: u32, c: &[u8], out: &mut [u8]) -> [[u32; 4]; 4]
+    ensures state { λ q. ⌜ q ≡ cond (eqb (length (now (out .entry))) (length (now (c .entry)))) (afterPart word32 rounds bodyMark s (message word32 rounds s (now (c .entry)))) s ⌝ }
+    ensures text { λ _. ⌜ now (out .exit) ≡ cond (eqb (length (now (out .entry))) (length (now (c .entry)))) (message word32 rounds s (now (c .entry))) (now (out .entry)) ⌝ }
+{
+    if out.len() == c.len() {
+        decrypt_exact(s, rounds, c, out)
+    } else {
+        s
+    }
+}
