@@ -2,6 +2,7 @@ pub mod Xor
 pub mod Bytes
 pub mod Words
 pub mod Rate
+pub mod Same
 pub mod Slices
 pub mod Loads
 pub mod Owned

@@ -1,0 +1,106 @@
+// The answers that the numbers of a call decide, in their order.
+ghost use mathlib.Core.Path.{_≡_};
+ghost use mathlib.Core.Bool.{_&&_};
+ghost use Prim.Native.Nat.{_+_, _-_};
+ghost use lib.Dec.{eqb};
+ghost use Rattle.sealing.specs.Calls.{roundsOk, within as withinOf, sealChecks, openChecks};
+use answers::Answer;
+use answers::need;
+
+fn rounds_ok(rounds: u32) -> bool
+    ensures { λ r. ⌜ r ≡ roundsOk rounds ⌝ }
+{
+    (rounds == 4) | (rounds == 6)
+}
+
+fn lengths_ok(row: usize, key: usize, nonce: usize) -> bool
+    ensures { λ r. ⌜ r ≡ (eqb key row && eqb nonce row) ⌝ }
+{
+    (key == row) & (nonce == row)
+}
+
+fn within(header: usize, body: usize, trailer: usize) -> bool
+    ensures { λ r. ⌜ r ≡ withinOf header body trailer ⌝ }
+{
+    (header <= 65536) & (body <= 16777216) & (trailer <= 65536)
+}
+
+// Whether a is b and c together, with no sum that could wrap.
+fn together(a: usize, b: usize, c: usize) -> bool
+    ensures { λ r. ⌜ r ≡ eqb a (b + c) ⌝ }
+{
+    if a < c {
+        return false;
+    }
+    a - c == b
+}
+
+// a less b; 0 where b is more.
+fn less(a: usize, b: usize) -> usize
+    ensures { λ r. ⌜ r ≡ a - b ⌝ }
+{
+    if a < b { 0 } else { a - b }
+}
+
+// 2, 1, 4, 5, else 0.
+pub(crate) fn seal_checks(
+    row: usize,
+    tag: usize,
+    rounds: u32,
+    key: usize,
+    nonce: usize,
+    header: usize,
+    body: usize,
+    trailer: usize,
+    out: usize,
+) -> Answer
+    ensures { λ r. ⌜ r ≡ sealChecks row tag rounds key nonce header body trailer out ⌝ }
+{
+    need(
+        rounds_ok(rounds),
+        Answer::RoundsNumber,
+        need(
+            lengths_ok(row, key, nonce),
+            Answer::KeyLength,
+            need(
+                within(header, body, trailer),
+                Answer::OverLimit,
+                need(together(out, body, tag), Answer::OutputLength, Answer::Done),
+            ),
+        ),
+    )
+}
+
+// 2, 1, 3, 4, 5, else 0.
+pub(crate) fn open_checks(
+    row: usize,
+    tag: usize,
+    rounds: u32,
+    key: usize,
+    nonce: usize,
+    header: usize,
+    text: usize,
+    trailer: usize,
+    out: usize,
+) -> Answer
+    ensures { λ r. ⌜ r ≡ openChecks row tag rounds key nonce header text trailer out ⌝ }
+{
+    let body = less(text, tag);
+    need(
+        rounds_ok(rounds),
+        Answer::RoundsNumber,
+        need(
+            lengths_ok(row, key, nonce),
+            Answer::KeyLength,
+            need(
+                tag <= text,
+                Answer::TagLength,
+                need(
+                    within(header, body, trailer),
+                    Answer::OverLimit,
+                    need(out == body, Answer::OutputLength, Answer::Done),
+                ),
+            ),
+        ),
+    )
+}

@@ -1,0 +1,135 @@
+// Sealing and opening in one call at 32-bit words.
+ghost use mathlib.Core.Path.{_≡_};
+ghost use Prim.Native.Nat.{_+_};
+ghost use lib.ListN.{length};
+ghost use Rattle.norx.specs.Norx.{word32, tagBits, headerMark, rowOf, afterPart, start as startOf, sealed as sealedOf, opened};
+ghost use Rattle.sealing.specs.Calls.{answerOf, outOf, sealAnswer, sealOut, openAnswer, openOut};
+use super::checks::open_checks;
+use super::checks::seal_checks;
+use answers::Answer;
+use answers::done;
+use sponge::texts::clear;
+use sponge::texts::same;
+use sponge::w32::ends::row;
+use sponge::w32::ends::start;
+use sponge::w32::ends::tag;
+use sponge::w32::parts::absorb;
+use sponge::w32::parts::decrypt;
+use sponge::w32::parts::encrypt;
+
+const HEADER: u32 = 0x01;
+
+const TRAILER: u32 = 0x04;
+
+// The state where the body begins.
+fn before_body(rounds: u32, key: [u32; 4], nonce: &[u8], header: &[u8]) -> [[u32; 4]; 4]
+    requires { ⌜ length (now nonce) ≡ 16 ⌝ }
+    ensures { λ r. ⌜ r ≡ afterPart word32 rounds headerMark (startOf word32 rounds (tagBits word32) key (rowOf word32 (now (nonce .entry)))) (now (header .entry)) ⌝ }
+{
+    absorb(start(rounds, key, row(nonce)), rounds, HEADER, header)
+}
+
+fn seal_checked(
+    rounds: u32,
+    key: &[u8],
+    nonce: &[u8],
+    header: &[u8],
+    body: &[u8],
+    trailer: &[u8],
+    out: &mut [u8],
+)
+    requires { ⌜ (length (now key) ≡ 16) × (length (now nonce) ≡ 16) × (length (now out) ≡ length (now body) + 16) ⌝ }
+    ensures { λ _. ⌜ now (out .exit) ≡ sealedOf word32 rounds (tagBits word32) (now (key .entry)) (now (nonce .entry)) (now (header .entry)) (now (body .entry)) (now (trailer .entry)) ⌝ }
+{
+    let k = row(key);
+    let s = before_body(rounds, k, nonce, header);
+    let n = body.len();
+    let t = encrypt(s, rounds, body, &mut out[0..n]);
+    let end = tag(rounds, k, absorb(t, rounds, TRAILER, trailer));
+    bytes::copy(&end, &mut out[n..]);
+}
+
+// Seals a body: ciphertext and tag are written to the output, which is as long as both.
+pub fn seal(
+    rounds: u32,
+    key: &[u8],
+    nonce: &[u8],
+    header: &[u8],
+    body: &[u8],
+    trailer: &[u8],
+    out: &mut [u8],
+) -> Answer
+    ensures answer { λ r. ⌜ r ≡ sealAnswer word32 rounds (now (key .entry)) (now (nonce .entry)) (now (header .entry)) (now (body .entry)) (now (trailer .entry)) (now (out .entry)) ⌝ }
+    ensures output { λ _. ⌜ now (out .exit) ≡ sealOut word32 rounds (now (key .entry)) (now (nonce .entry)) (now (header .entry)) (now (body .entry)) (now (trailer .entry)) (now (out .entry)) ⌝ }
+{
+    let answer = seal_checks(
+        16,
+        16,
+        rounds,
+        key.len(),
+        nonce.len(),
+        header.len(),
+        body.len(),
+        trailer.len(),
+        out.len(),
+    );
+    if done(answer) {
+        seal_checked(rounds, key, nonce, header, body, trailer, out);
+    }
+    answer
+}
+
+fn open_checked(
+    rounds: u32,
+    key: &[u8],
+    nonce: &[u8],
+    header: &[u8],
+    sealed: &[u8],
+    trailer: &[u8],
+    out: &mut [u8],
+) -> Answer
+    requires { ⌜ (length (now key) ≡ 16) × (length (now nonce) ≡ 16) × (length (now sealed) ≡ length (now out) + 16) ⌝ }
+    ensures answer { λ r. ⌜ r ≡ answerOf (opened word32 rounds (tagBits word32) (now (key .entry)) (now (nonce .entry)) (now (header .entry)) (now (sealed .entry)) (now (trailer .entry))) ⌝ }
+    ensures output { λ _. ⌜ now (out .exit) ≡ outOf (opened word32 rounds (tagBits word32) (now (key .entry)) (now (nonce .entry)) (now (header .entry)) (now (sealed .entry)) (now (trailer .entry))) (length (now (out .entry))) ⌝ }
+{
+    let k = row(key);
+    let s = before_body(rounds, k, nonce, header);
+    let n = out.len();
+    let t = decrypt(s, rounds, &sealed[0..n], &mut *out);
+    let end = tag(rounds, k, absorb(t, rounds, TRAILER, trailer));
+    if same(&sealed[n..], &end) {
+        return Answer::Done;
+    }
+    clear(out);
+    Answer::TagDiffers
+}
+
+// Opens a sealed text: its message is written to the output, which is as long as the text less its tag; zeros where the tag differs.
+pub fn open(
+    rounds: u32,
+    key: &[u8],
+    nonce: &[u8],
+    header: &[u8],
+    sealed: &[u8],
+    trailer: &[u8],
+    out: &mut [u8],
+) -> Answer
+    ensures answer { λ r. ⌜ r ≡ openAnswer word32 rounds (now (key .entry)) (now (nonce .entry)) (now (header .entry)) (now (sealed .entry)) (now (trailer .entry)) (now (out .entry)) ⌝ }
+    ensures output { λ _. ⌜ now (out .exit) ≡ openOut word32 rounds (now (key .entry)) (now (nonce .entry)) (now (header .entry)) (now (sealed .entry)) (now (trailer .entry)) (now (out .entry)) ⌝ }
+{
+    let answer = open_checks(
+        16,
+        16,
+        rounds,
+        key.len(),
+        nonce.len(),
+        header.len(),
+        sealed.len(),
+        trailer.len(),
+        out.len(),
+    );
+    if done(answer) {
+        return open_checked(rounds, key, nonce, header, sealed, trailer, out);
+    }
+    answer
+}

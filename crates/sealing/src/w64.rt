@@ -1,0 +1,135 @@
+// Sealing and opening in one call at 64-bit words.
+ghost use mathlib.Core.Path.{_≡_};
+ghost use Prim.Native.Nat.{_+_};
+ghost use lib.ListN.{length};
+ghost use Rattle.norx.specs.Norx.{word64, tagBits, headerMark, rowOf, afterPart, start as startOf, sealed as sealedOf, opened};
+ghost use Rattle.sealing.specs.Calls.{answerOf, outOf, sealAnswer, sealOut, openAnswer, openOut};
+use super::checks::open_checks;
+use super::checks::seal_checks;
+use answers::Answer;
+use answers::done;
+use sponge::texts::clear;
+use sponge::texts::same;
+use sponge::w64::ends::row;
+use sponge::w64::ends::start;
+use sponge::w64::ends::tag;
+use sponge::w64::parts::absorb;
+use sponge::w64::parts::decrypt;
+use sponge::w64::parts::encrypt;
+
+const HEADER: u64 = 0x01;
+
+const TRAILER: u64 = 0x04;
+
+// The state where the body begins.
+fn before_body(rounds: u32, key: [u64; 4], nonce: &[u8], header: &[u8]) -> [[u64; 4]; 4]
+    requires { ⌜ length (now nonce) ≡ 32 ⌝ }
+    ensures { λ r. ⌜ r ≡ afterPart word64 rounds headerMark (startOf word64 rounds (tagBits word64) key (rowOf word64 (now (nonce .entry)))) (now (header .entry)) ⌝ }
+{
+    absorb(start(rounds, key, row(nonce)), rounds, HEADER, header)
+}
+
+fn seal_checked(
+    rounds: u32,
+    key: &[u8],
+    nonce: &[u8],
+    header: &[u8],
+    body: &[u8],
+    trailer: &[u8],
+    out: &mut [u8],
+)
+    requires { ⌜ (length (now key) ≡ 32) × (length (now nonce) ≡ 32) × (length (now out) ≡ length (now body) + 32) ⌝ }
+    ensures { λ _. ⌜ now (out .exit) ≡ sealedOf word64 rounds (tagBits word64) (now (key .entry)) (now (nonce .entry)) (now (header .entry)) (now (body .entry)) (now (trailer .entry)) ⌝ }
+{
+    let k = row(key);
+    let s = before_body(rounds, k, nonce, header);
+    let n = body.len();
+    let t = encrypt(s, rounds, body, &mut out[0..n]);
+    let end = tag(rounds, k, absorb(t, rounds, TRAILER, trailer));
+    bytes::copy(&end, &mut out[n..]);
+}
+
+// Seals a body: ciphertext and tag are written to the output, which is as long as both.
+pub fn seal(
+    rounds: u32,
+    key: &[u8],
+    nonce: &[u8],
+    header: &[u8],
+    body: &[u8],
+    trailer: &[u8],
+    out: &mut [u8],
+) -> Answer
+    ensures answer { λ r. ⌜ r ≡ sealAnswer word64 rounds (now (key .entry)) (now (nonce .entry)) (now (header .entry)) (now (body .entry)) (now (trailer .entry)) (now (out .entry)) ⌝ }
+    ensures output { λ _. ⌜ now (out .exit) ≡ sealOut word64 rounds (now (key .entry)) (now (nonce .entry)) (now (header .entry)) (now (body .entry)) (now (trailer .entry)) (now (out .entry)) ⌝ }
+{
+    let answer = seal_checks(
+        32,
+        32,
+        rounds,
+        key.len(),
+        nonce.len(),
+        header.len(),
+        body.len(),
+        trailer.len(),
+        out.len(),
+    );
+    if done(answer) {
+        seal_checked(rounds, key, nonce, header, body, trailer, out);
+    }
+    answer
+}
+
+fn open_checked(
+    rounds: u32,
+    key: &[u8],
+    nonce: &[u8],
+    header: &[u8],
+    sealed: &[u8],
+    trailer: &[u8],
+    out: &mut [u8],
+) -> Answer
+    requires { ⌜ (length (now key) ≡ 32) × (length (now nonce) ≡ 32) × (length (now sealed) ≡ length (now out) + 32) ⌝ }
+    ensures answer { λ r. ⌜ r ≡ answerOf (opened word64 rounds (tagBits word64) (now (key .entry)) (now (nonce .entry)) (now (header .entry)) (now (sealed .entry)) (now (trailer .entry))) ⌝ }
+    ensures output { λ _. ⌜ now (out .exit) ≡ outOf (opened word64 rounds (tagBits word64) (now (key .entry)) (now (nonce .entry)) (now (header .entry)) (now (sealed .entry)) (now (trailer .entry))) (length (now (out .entry))) ⌝ }
+{
+    let k = row(key);
+    let s = before_body(rounds, k, nonce, header);
+    let n = out.len();
+    let t = decrypt(s, rounds, &sealed[0..n], &mut *out);
+    let end = tag(rounds, k, absorb(t, rounds, TRAILER, trailer));
+    if same(&sealed[n..], &end) {
+        return Answer::Done;
+    }
+    clear(out);
+    Answer::TagDiffers
+}
+
+// Opens a sealed text: its message is written to the output, which is as long as the text less its tag; zeros where the tag differs.
+pub fn open(
+    rounds: u32,
+    key: &[u8],
+    nonce: &[u8],
+    header: &[u8],
+    sealed: &[u8],
+    trailer: &[u8],
+    out: &mut [u8],
+) -> Answer
+    ensures answer { λ r. ⌜ r ≡ openAnswer word64 rounds (now (key .entry)) (now (nonce .entry)) (now (header .entry)) (now (sealed .entry)) (now (trailer .entry)) (now (out .entry)) ⌝ }
+    ensures output { λ _. ⌜ now (out .exit) ≡ openOut word64 rounds (now (key .entry)) (now (nonce .entry)) (now (header .entry)) (now (sealed .entry)) (now (trailer .entry)) (now (out .entry)) ⌝ }
+{
+    let answer = open_checks(
+        32,
+        32,
+        rounds,
+        key.len(),
+        nonce.len(),
+        header.len(),
+        sealed.len(),
+        trailer.len(),
+        out.len(),
+    );
+    if done(answer) {
+        return open_checked(rounds, key, nonce, header, sealed, trailer, out);
+    }
+    answer
+}
