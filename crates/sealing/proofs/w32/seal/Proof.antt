@@ -1,43 +1,39 @@
+-- `sealing::w32::seal` goes by its checks.
+-- Assumes nothing.
 use borrow.Author.Needs.{needs}
+use mathlib.Core.Path.{_≡_, refl, sym, ap, _∙_}
+use mathlib.Core.Bool.{true, false}
+use lib.ListN.{length}
+use Rattle.answers.specs.Answers.{doneOf}
+use Rattle.sealing.specs.Calls.{sealChecks, sealAnswer, sealOut}
+use Rattle.sealing.proofs.Lengths.{seal-exact}
 use Rattle.sealing.proofs.w32.seal.Statement.{statement}
 use Rattle.sealing.proofs.w32.seal.Tie as tie
-use Rattle.sealing.proofs.w32.seal.Reads as reads
-use Rattle.sealing.proofs.w32.seal.Lts as lts
-use Rattle.answers.proofs.done.Reads as done-reads
-use Rattle.sealing.proofs.checks.seal_checks.Reads as seal-checks-reads
-use Rattle.sealing.proofs.w32.seal_checked.Reads as seal-checked-reads
 
--- src/w32.rt:65:9
-seal-checks-requires : tie.Need-seal-checks-requires
-seal-checks-requires c κs = search needs
-
--- src/w32.rt:76:8
-done-requires : tie.Need-done-requires
-done-requires c κs = search needs
-
--- src/w32.rt:77:9
 seal-checked-requires : tie.Need-seal-checked-requires
-seal-checked-requires c κs = ?
+seal-checked-requires c κs =
+    let check = c .before .before .before in
+    let x = check .before .before .before .before .before .before .before .args in
+    let e = ap doneOf (sym (check .seal-checks .ensures)) ∙ sym (c .before .before .done .ensures) ∙ c .before .if1 .taken in
+    let r = seal-exact 16 16 (x .rounds) (length (x .key .now)) (length (x .nonce .now)) (length (x .header .now)) (length (x .body .now)) (length (x .trailer .now)) (length (x .out .now)) e in
+    (r .key-long, r .nonce-long, r .text-long)
 
--- src/w32.rt:53:1
-same-length : tie.Need-same-length
-same-length c = search needs
-
--- src/w32.rt:53:1
 returns : tie.Need-returns
-returns c = ?
+unfolding sealAnswer sealOut
+returns c =
+    let check = c .before .before .before .before .before .before in
+    let e = ap doneOf (sym (check .seal-checks .ensures)) ∙ sym (c .before .before .before .before .before .done .ensures) ∙ c .before .before .before .before .if1 .taken in
+    (check .seal-checks .ensures, rw e (c .before .before .seal-checked .ensures))
 
--- src/w32.rt:53:1
 returns-2 : tie.Need-returns-2
-returns-2 c = ?
+unfolding sealAnswer sealOut
+returns-2 c =
+    let check = c .before .before in
+    let e = ap doneOf (sym (check .seal-checks .ensures)) ∙ sym (c .before .done .ensures) ∙ c .if1 .left in
+    (check .seal-checks .ensures, rw e)
 
 pub seal-spec : {M : Type 1} → statement M
 seal-spec =
     tie.close
     (tie.spec
-    seal-checks-requires
-    done-requires
-    seal-checked-requires
-    same-length
-    returns
-    returns-2)
+    (λ c κs. search needs) (λ c κs. search needs) seal-checked-requires (λ c. search needs) returns returns-2)

@@ -1,27 +1,21 @@
+-- `sealing::w64::before_body`: the start, and the header.
+-- Assumes nothing.
 use borrow.Author.Needs.{needs}
+use mathlib.Core.Path.{ap, _∙_}
+use borrow.Author.Tests.{eq-eqb}
+use lib.ListN.{length}
+use Rattle.norx.specs.Norx.{word64, State, tagBits, headerMark, afterPart, start}
 use Rattle.sealing.proofs.w64.before_body.Statement.{statement}
 use Rattle.sealing.proofs.w64.before_body.Tie as tie
-use Rattle.sealing.proofs.w64.before_body.Reads as reads
-use Rattle.sealing.proofs.w64.before_body.Lts as lts
-use Rattle.sponge.proofs.w64.ends.row.Reads as row-reads
-use Rattle.sponge.proofs.w64.ends.start.Reads as start-reads
-use Rattle.sponge.proofs.w64.parts.absorb.Reads as absorb-reads
 
--- src/w64.rt:29:31
-row-requires : tie.Need-row-requires
-row-requires c κs = search needs
-
--- src/w64.rt:29:12
-start-requires : tie.Need-start-requires
-start-requires c κs = search needs
-
--- src/w64.rt:29:5
-absorb-requires : tie.Need-absorb-requires
-absorb-requires c κs = search needs
-
--- src/w64.rt:25:1
 returns : tie.Need-returns
-returns c = ?
+returns c =
+    let at-row = c .before .before in
+    let start-at = at-row .before .before .before in
+    let x = start-at .args in
+    let n = rw (eq-eqb (length (x .nonce .now)) 32 (start-at .pre)) at (at-row .row .ensures) in
+    c .absorb .ensures
+    ∙ ap (λ (s : State). afterPart word64 (x .rounds) headerMark s (x .header .now)) (c .before .start .ensures ∙ ap (start word64 (x .rounds) (tagBits word64) (x .key)) n)
 
 pub before-body-spec : {M : Type 1} → statement M
-before-body-spec = tie.close (tie.spec row-requires start-requires absorb-requires returns)
+before-body-spec = tie.close (tie.spec (λ c κs. search needs) (λ c κs. search needs) (λ c κs. search needs) returns)

@@ -1,43 +1,39 @@
+-- `sealing::w64::open` goes by its checks.
+-- Assumes nothing.
 use borrow.Author.Needs.{needs}
+use mathlib.Core.Path.{_≡_, refl, sym, ap, _∙_}
+use mathlib.Core.Bool.{true, false}
+use lib.ListN.{length}
+use Rattle.answers.specs.Answers.{doneOf}
+use Rattle.sealing.specs.Calls.{openChecks, openAnswer, openOut}
+use Rattle.sealing.proofs.Lengths.{open-exact}
 use Rattle.sealing.proofs.w64.open.Statement.{statement}
 use Rattle.sealing.proofs.w64.open.Tie as tie
-use Rattle.sealing.proofs.w64.open.Reads as reads
-use Rattle.sealing.proofs.w64.open.Lts as lts
-use Rattle.answers.proofs.done.Reads as done-reads
-use Rattle.sealing.proofs.checks.open_checks.Reads as open-checks-reads
-use Rattle.sealing.proofs.w64.open_checked.Reads as open-checked-reads
 
--- src/w64.rt:120:9
-open-checks-requires : tie.Need-open-checks-requires
-open-checks-requires c κs = search needs
-
--- src/w64.rt:131:8
-done-requires : tie.Need-done-requires
-done-requires c κs = search needs
-
--- src/w64.rt:132:9
 open-checked-requires : tie.Need-open-checked-requires
-open-checked-requires c κs = ?
+open-checked-requires c κs =
+    let check = c .before .before .before in
+    let x = check .before .before .before .before .before .before .before .args in
+    let e = ap doneOf (sym (check .open-checks .ensures)) ∙ sym (c .before .before .done .ensures) ∙ c .before .if1 .taken in
+    let r = open-exact 32 32 (x .rounds) (length (x .key .now)) (length (x .nonce .now)) (length (x .header .now)) (length (x .sealed .now)) (length (x .trailer .now)) (length (x .out .now)) e in
+    (r .key-long, r .nonce-long, r .text-long)
 
--- src/w64.rt:132:9
-same-length : tie.Need-same-length
-same-length c = search needs
-
--- src/w64.rt:132:9
 returns : tie.Need-returns
-returns c = ?
+unfolding openAnswer openOut
+returns c =
+    let check = c .before .before .before .before .before .before in
+    let e = ap doneOf (sym (check .open-checks .ensures)) ∙ sym (c .before .before .before .before .before .done .ensures) ∙ c .before .before .before .before .if1 .taken in
+    (rw e (c .before .before .open-checked .ensures .0), rw e (c .before .before .open-checked .ensures .1))
 
--- src/w64.rt:108:1
 returns-2 : tie.Need-returns-2
-returns-2 c = ?
+unfolding openAnswer openOut
+returns-2 c =
+    let check = c .before .before in
+    let e = ap doneOf (sym (check .open-checks .ensures)) ∙ sym (c .before .done .ensures) ∙ c .if1 .left in
+    (rw e (check .open-checks .ensures), rw e)
 
 pub open-spec : {M : Type 1} → statement M
 open-spec =
     tie.close
     (tie.spec
-    open-checks-requires
-    done-requires
-    open-checked-requires
-    same-length
-    returns
-    returns-2)
+    (λ c κs. search needs) (λ c κs. search needs) open-checked-requires (λ c. search needs) returns returns-2)
