@@ -1,0 +1,94 @@
+/* Jeczmilot: sealing and opening of machine jobs with NORX 3.0, parallelism 1.
+ *
+ * Two calls. Each ends with an answer, for any numbers and bytes given to it; nothing is asked beforehand
+ * but what C asks of every pointer (see "Buffers" below). The answer is one of the numbers JECZMILOT_...
+ *
+ * WIDTHS           32-bit words    64-bit words
+ *   width               32              64        given as a number; any other is answered 11
+ *   rounds            4 or 6          4 or 6
+ *   key                 16              32        bytes, exactly
+ *   nonce               16              32        bytes, exactly
+ *   tag                 16              32        bytes
+ *
+ * LENGTHS
+ *   header and trailer   0 to 65,536 bytes each
+ *   body                 0 to 16,777,216 bytes
+ *   sealed text          the body's ciphertext, as long as the body, followed by the tag
+ *   out of norx_seal     exactly body_len + tag
+ *   out of norx_open     exactly sealed_len - tag
+ *
+ * ANSWERS, the first that applies in the order 11, 2, 1, 3, 4, 5, 10
+ *    0  done: out holds the sealed text, or the message
+ *   11  the width is neither 32 nor 64                   out is unchanged
+ *    2  the rounds are neither 4 nor 6                   out is unchanged
+ *    1  the key or the nonce has not the width's length  out is unchanged
+ *    3  the sealed text is shorter than a tag            out is unchanged   (norx_open)
+ *    4  header, body or trailer is over its limit        out is unchanged
+ *    5  out_len is not the exact length                  out is unchanged
+ *   10  the tag differs in any byte                      every byte of out is zero   (norx_open)
+ * The numbers 6 to 9 are for sessions and are never given by these calls.
+ *
+ * BUFFERS
+ *   A pointer and its length are one argument. A null pointer with length 0 is an empty text.
+ *   out must not overlap any other buffer; the others may overlap each other, and none of them is written.
+ *   While norx_open runs, out may hold bytes whose tag is not checked yet: let nobody read it before the answer.
+ *
+ * WHAT IT DOES NOT DO
+ *   Whoever uses one nonce twice under one key loses secrecy: choose a nonce that was never used with that key.
+ *   Nothing here resists an attacker who measures time. Keys are not stored, and not erased from memory.
+ */
+#ifndef JECZMILOT_H
+#define JECZMILOT_H
+
+#include <stddef.h>
+#include <stdint.h>
+
+#ifdef __cplusplus
+extern "C" {
+#endif
+
+#define JECZMILOT_DONE 0
+#define JECZMILOT_KEY_LENGTH 1
+#define JECZMILOT_ROUNDS_NUMBER 2
+#define JECZMILOT_TAG_LENGTH 3
+#define JECZMILOT_OVER_LIMIT 4
+#define JECZMILOT_OUTPUT_LENGTH 5
+#define JECZMILOT_TAG_DIFFERS 10
+#define JECZMILOT_WIDTH_NUMBER 11
+
+/* The bytes of a key, of a nonce and of a tag. */
+#define JECZMILOT_KEY_BYTES_32 16
+#define JECZMILOT_KEY_BYTES_64 32
+#define JECZMILOT_TAG_BYTES_32 16
+#define JECZMILOT_TAG_BYTES_64 32
+
+#define JECZMILOT_HEADER_LIMIT 65536
+#define JECZMILOT_BODY_LIMIT 16777216
+#define JECZMILOT_TRAILER_LIMIT 65536
+
+/* Seals a body under a key and a nonce, bound to a header and a trailer that are not encrypted.
+ * Writes ciphertext and tag to out. Answers 0, 11, 2, 1, 4 or 5. */
+uint32_t norx_seal(uint32_t width, uint32_t rounds,
+                   const uint8_t *key, size_t key_len,
+                   const uint8_t *nonce, size_t nonce_len,
+                   const uint8_t *header, size_t header_len,
+                   const uint8_t *body, size_t body_len,
+                   const uint8_t *trailer, size_t trailer_len,
+                   uint8_t *out, size_t out_len);
+
+/* Opens a sealed text under the key, nonce, header and trailer that it was sealed with.
+ * Writes the message to out exactly when some message seals to this text, and else zeros.
+ * Answers 0, 11, 2, 1, 3, 4, 5 or 10. */
+uint32_t norx_open(uint32_t width, uint32_t rounds,
+                   const uint8_t *key, size_t key_len,
+                   const uint8_t *nonce, size_t nonce_len,
+                   const uint8_t *header, size_t header_len,
+                   const uint8_t *sealed, size_t sealed_len,
+                   const uint8_t *trailer, size_t trailer_len,
+                   uint8_t *out, size_t out_len);
+
+#ifdef __cplusplus
+}
+#endif
+
+#endif

@@ -1,0 +1,22 @@
+#!/bin/sh
+# Checks that the archive exports norx_seal and norx_open and nothing else:
+#   tests/archive.sh [ARCHIVE]
+
+set -eu
+. "$(dirname "$0")/place.sh"
+. tests/tools.sh
+
+listing=$($NM --extern-only --defined-only --format=posix "$archive")
+
+# A symbol's line begins with name and type; the line that names a member of the archive ends in a colon.
+symbols=$(echo "$listing" | awk '!/:$/ && NF >= 2 { print $2, $1 }' | sort -u)
+names=$(echo "$symbols" | awk '{ print $2 }' | sort -u)
+expected=$(printf 'norx_open\nnorx_seal')
+
+echo "global symbols defined in $archive:"
+echo "$symbols" | sed 's/^/  /'
+if [ "$names" != "$expected" ]; then
+    echo "expected are norx_open and norx_seal and nothing else" >&2
+    exit 1
+fi
+echo "only norx_open and norx_seal are exported"

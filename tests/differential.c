@@ -1,0 +1,73 @@
+/* Compares the library with the reference, byte for byte, and stops by itself. */
+
+#include <stdio.h>
+#include <stdlib.h>
+#include <string.h>
+
+#include "differential/cases.h"
+#include "differential/families.h"
+
+static void explain_and_exit(const char *program)
+{
+    fprintf(stderr,
+            "usage: %s VECTORS [--only NAME | --case NUMBER] [--seed NUMBER] [--runner COMMAND]\n"
+            "  --only, --case  run one case, by its name or its number\n"
+            "  --seed          another start of the random bytes\n"
+            "  --runner        what stands before the program when it is run\n",
+            program);
+    exit(2);
+}
+
+static uint64_t read_number(const char *program, const char *text)
+{
+    char *end;
+    uint64_t number = strtoull(text, &end, 10);
+
+    if (text[0] < '0' || text[0] > '9' || *end != '\0')
+        explain_and_exit(program);
+    return number;
+}
+
+static struct options read_options(int count, char **arguments)
+{
+    struct options options = {.program = arguments[0], .runner = "", .seed = 3001};
+
+    if (count < 2 || count % 2 != 0 || arguments[1][0] == '-')
+        explain_and_exit(options.program);
+    options.vectors = arguments[1];
+    for (int i = 2; i < count; i += 2) {
+        const char *value = arguments[i + 1];
+
+        if (strcmp(arguments[i], "--only") == 0)
+            options.only = value;
+        else if (strcmp(arguments[i], "--case") == 0)
+            options.only_number = read_number(options.program, value);
+        else if (strcmp(arguments[i], "--seed") == 0)
+            options.seed = read_number(options.program, value);
+        else if (strcmp(arguments[i], "--runner") == 0)
+            options.runner = value;
+        else
+            explain_and_exit(options.program);
+    }
+    return options;
+}
+
+int main(int count, char **arguments)
+{
+    struct options options = read_options(count, arguments);
+    struct message message;
+
+    cases_start(&options);
+    message_allocate(&message);
+    published_vectors(&message, options.vectors);
+    lengths_around_the_rate(&message);
+    single_refusals(&message);
+    refusals_at_once(&message);
+    null_pointers(&message);
+    random_messages(&message);
+    damaged_messages(&message);
+    large_bodies(&message);
+    parts_at_their_limits(&message);
+    message_free(&message);
+    return cases_finish();
+}

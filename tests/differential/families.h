@@ -1,0 +1,26 @@
+#ifndef FAMILIES_H
+#define FAMILIES_H
+
+#include "message.h"
+
+/* Each runs its cases in a fixed order, using the message as its working space. */
+
+void published_vectors(struct message *message, const char *path);
+
+void lengths_around_the_rate(struct message *message);
+
+void random_messages(struct message *message);
+
+void damaged_messages(struct message *message);
+
+void large_bodies(struct message *message);
+
+void parts_at_their_limits(struct message *message);
+
+void single_refusals(struct message *message);
+
+void refusals_at_once(struct message *message);
+
+void null_pointers(struct message *message);
+
+#endif

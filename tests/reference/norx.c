@@ -1,0 +1,132 @@
+/* NORX 3.0 with parallelism 1: the independent program that the library is compared with. */
+
+#include "norx.h"
+
+#include <string.h>
+
+enum { MARK_HEADER = 0x01, MARK_BODY = 0x02, MARK_TRAILER = 0x04, MARK_FINISH = 0x08 };
+
+enum { EDGE_LIMIT = 65536, BODY_LIMIT = 16777216 };
+
+enum {
+    DONE = 0,
+    BAD_KEY_OR_NONCE = 1,
+    BAD_ROUNDS = 2,
+    TOO_SHORT = 3,
+    OVER_LIMIT = 4,
+    BAD_OUTPUT = 5,
+    BAD_TAG = 10,
+    BAD_WIDTH = 11
+};
+
+struct slice {
+    const uint8_t *bytes;
+    size_t length;
+};
+
+/* In opening the body is the ciphertext, and the tag stands behind it. */
+struct request {
+    uint32_t rounds;
+    struct slice key, nonce, header, body, trailer;
+};
+
+/* The words are moved as they lie in memory. */
+#if __BYTE_ORDER__ != __ORDER_LITTLE_ENDIAN__
+#error "NORX words are little-endian"
+#endif
+
+/* Only inlined do the words of a local state stay in registers. */
+#define INLINE static inline __attribute__((always_inline))
+
+/* Each table is the second half of two rounds applied to the state 0, 1, ..., 15. */
+
+#define WIDTH 32
+#define ROTATION_0 8
+#define ROTATION_1 11
+#define ROTATION_2 16
+#define ROTATION_3 31
+#define START_CONSTANTS                                                                                       \
+    {                                                                                                         \
+        0xa3d8d930, 0x3fa8b72c, 0xed84eb49, 0xedca4787, 0x335463eb, 0xf994220b, 0xbe0bf5c9, 0xd7c49104        \
+    }
+#include "norx_width.inc"
+
+#define WIDTH 64
+#define ROTATION_0 8
+#define ROTATION_1 19
+#define ROTATION_2 40
+#define ROTATION_3 63
+#define START_CONSTANTS                                                                                       \
+    {                                                                                                         \
+        0xb15e641748de5e6b, 0xaa95e955e10f8410, 0x28d1034441a9dd40, 0x7f31bbf964e93bf5, 0xb5e9e22493dffb96,   \
+            0xb980c852479fafbd, 0xda24516bf55eafd4, 0x86026ae8536f1501                                        \
+    }
+#include "norx_width.inc"
+
+static size_t tag_length(uint32_t width)
+{
+    return width == 32 ? tag_bytes_32 : tag_bytes_64;
+}
+
+/* Numbers 11, 2 and 1, which do not ask for the body's length. */
+static uint32_t refuse_parameters(uint32_t width, const struct request *r)
+{
+    if (width != 32 && width != 64)
+        return BAD_WIDTH;
+    if (r->rounds != 4 && r->rounds != 6)
+        return BAD_ROUNDS;
+    if (r->key.length != tag_length(width) || r->nonce.length != tag_length(width))
+        return BAD_KEY_OR_NONCE;
+    return DONE;
+}
+
+static uint32_t refuse_lengths(const struct request *r, size_t out_len, size_t exact_out_len)
+{
+    if (r->header.length > EDGE_LIMIT || r->body.length > BODY_LIMIT || r->trailer.length > EDGE_LIMIT)
+        return OVER_LIMIT;
+    return out_len == exact_out_len ? DONE : BAD_OUTPUT;
+}
+
+uint32_t reference_seal(uint32_t width, uint32_t rounds, const uint8_t *key, size_t key_len,
+                        const uint8_t *nonce, size_t nonce_len, const uint8_t *header, size_t header_len,
+                        const uint8_t *body, size_t body_len, const uint8_t *trailer, size_t trailer_len,
+                        uint8_t *out, size_t out_len)
+{
+    const struct request r = {rounds,           {key, key_len},   {nonce, nonce_len}, {header, header_len},
+                              {body, body_len}, {trailer, trailer_len}};
+    uint32_t answer = refuse_parameters(width, &r);
+
+    if (answer == DONE)
+        answer = refuse_lengths(&r, out_len, body_len + tag_length(width));
+    if (answer != DONE)
+        return answer;
+    if (width == 32)
+        seal_32(&r, out);
+    else
+        seal_64(&r, out);
+    return DONE;
+}
+
+uint32_t reference_open(uint32_t width, uint32_t rounds, const uint8_t *key, size_t key_len,
+                        const uint8_t *nonce, size_t nonce_len, const uint8_t *header, size_t header_len,
+                        const uint8_t *sealed, size_t sealed_len, const uint8_t *trailer, size_t trailer_len,
+                        uint8_t *out, size_t out_len)
+{
+    struct request r = {rounds,      {key, key_len},         {nonce, nonce_len}, {header, header_len},
+                        {sealed, 0}, {trailer, trailer_len}};
+    uint32_t answer = refuse_parameters(width, &r);
+
+    if (answer != DONE)
+        return answer;
+    if (sealed_len < tag_length(width))
+        return TOO_SHORT;
+    r.body.length = sealed_len - tag_length(width);
+    answer = refuse_lengths(&r, out_len, r.body.length);
+    if (answer != DONE)
+        return answer;
+    if (width == 32 ? open_32(&r, out) : open_64(&r, out))
+        return DONE;
+    if (out_len > 0)
+        memset(out, 0, out_len);
+    return BAD_TAG;
+}

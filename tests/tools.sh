@@ -1,0 +1,62 @@
+#!/bin/sh
+# Sourced or run: installs the C compiler that is missing and sets CC, CFLAGS, LDFLAGS, NM and RUN.
+# The archive is for x86-64, so an Arm host compiles for x86-64 and runs the programs under qemu.
+
+set -eu
+
+is_there() {
+    command -v "$1" >/dev/null 2>&1
+}
+
+cannot_install() {
+    echo "tests/tools.sh: can't install; these Debian packages are needed: $*" >&2
+    exit 1
+}
+
+install_packages() {
+    as_root=
+    if [ "$(id -u)" -ne 0 ]; then
+        is_there sudo || cannot_install "$@"
+        as_root=sudo
+    fi
+    is_there apt-get || cannot_install "$@"
+    echo "tests/tools.sh: installing $*" >&2
+    $as_root apt-get update -qq >&2 || cannot_install "$@"
+    $as_root env DEBIAN_FRONTEND=noninteractive apt-get install -qq -y --no-install-recommends "$@" >&2 ||
+        cannot_install "$@"
+}
+
+# The compiler answers with a whole path only if it finds the file.
+has_static_libc() {
+    case $("$1" -print-file-name=libc.a) in
+    */*) return 0 ;;
+    *) return 1 ;;
+    esac
+}
+
+has_cross_tools() {
+    is_there x86_64-linux-gnu-gcc && has_static_libc x86_64-linux-gnu-gcc && is_there qemu-x86_64
+}
+
+CFLAGS="-std=c11 -O3 -Wall -Wextra"
+
+case $(uname -m) in
+x86_64)
+    is_there cc || install_packages gcc libc6-dev
+    CC=cc
+    NM='nm'
+    LDFLAGS=
+    RUN=
+    ;;
+aarch64)
+    has_cross_tools || install_packages gcc-x86-64-linux-gnu libc6-dev-amd64-cross qemu-user
+    CC=x86_64-linux-gnu-gcc
+    NM=x86_64-linux-gnu-nm
+    LDFLAGS=-static
+    RUN=qemu-x86_64
+    ;;
+*)
+    echo "tests/tools.sh: the archive is for x86-64, and there are no tools for a $(uname -m) host" >&2
+    exit 1
+    ;;
+esac
