@@ -114,6 +114,15 @@ module _ (w : Width) (l t : ℕ) (fits : t / 8 ≤ rowBytes w) (key nonce header
       (sym (same-true (tagPart t x) (tag w l t key nonce header b trailer) (p .0)))
       ∙ take-append-drop (length x - t / 8) x
 
+  -- what a text of bytes opens to is bytes
+  pub opened-bytes : (x m : List ℕ) → Bytes x → opened w l t key nonce header x trailer ≡ some m → Bytes m
+  unfolding opened recovered
+  opened-bytes x m h e i =
+      let s : State = beforeBody w l t key nonce header in
+      let b : List ℕ = message w l s (bodyPart t x) in
+      let p = given (same (tagPart t x) (tag w l t key nonce header b trailer)) b m e in
+      rw (sym (p .1)) (bytes-message w l s (bodyPart t x) (bytes-take (length x - t / 8) x h) i)
+
   -- where a text is refused, no message seals to it
   pub refused-unsealed : (x m : List ℕ) → Bytes m → opened w l t key nonce header x trailer ≡ none → sealed w l t key nonce header m trailer ≡ x → ⊥
   refused-unsealed x m h e f =

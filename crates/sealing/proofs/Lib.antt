@@ -1,2 +1,4 @@
 pub mod Lengths
 pub mod Written
+pub mod Demand
+pub mod Unique

@@ -1,0 +1,22 @@
+-- Any two results that the contract of a public function allows are equal, with what every lent buffer then holds. Stated over the contracts' own readings.
+-- Assumes nothing.
+use mathlib.Core.Path.{_≡_, sym, _∙_}
+use denote.Ref.{now}
+use denote.Triple.Clauses.{AtExit}
+use contract.Lifetimes.{Lfts}
+use borrow.Fn.World.{ArgsD, ResD}
+use borrow.Fn.Kinds.{endedOf}
+use Rattle.jeczmilot.proofs.norx_seal.{signature as signature-norx-seal}
+use Rattle.jeczmilot.proofs.norx_seal.Kinds as kinds-norx-seal
+use Rattle.jeczmilot.proofs.norx_seal.Reads.{Post as Post-norx-seal}
+use Rattle.jeczmilot.proofs.norx_open.{signature as signature-norx-open}
+use Rattle.jeczmilot.proofs.norx_open.Kinds as kinds-norx-open
+use Rattle.jeczmilot.proofs.norx_open.Reads.{Post as Post-norx-open}
+
+pub one-norx-seal : (κs : Lfts 6) (a : ArgsD signature-norx-seal κs) (r r′ : ResD signature-norx-seal κs) (s s′ : AtExit (endedOf 6 kinds-norx-seal.ps kinds-norx-seal.r) κs)
+    → Post-norx-seal κs a r s → Post-norx-seal κs a r′ s′ → (r ≡ r′) × (now (s .1 .1 .1 .1 .1 .1 .1 .0) ≡ now (s′ .1 .1 .1 .1 .1 .1 .1 .0))
+one-norx-seal κs a r r′ s s′ p q = (p .0 ∙ sym (q .0), p .1 ∙ sym (q .1))
+
+pub one-norx-open : (κs : Lfts 6) (a : ArgsD signature-norx-open κs) (r r′ : ResD signature-norx-open κs) (s s′ : AtExit (endedOf 6 kinds-norx-open.ps kinds-norx-open.r) κs)
+    → Post-norx-open κs a r s → Post-norx-open κs a r′ s′ → (r ≡ r′) × (now (s .1 .1 .1 .1 .1 .1 .1 .0) ≡ now (s′ .1 .1 .1 .1 .1 .1 .1 .0))
+one-norx-open κs a r r′ s s′ p q = (p .0 ∙ sym (q .0), p .1 ∙ sym (q .1))

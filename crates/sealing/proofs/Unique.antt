@@ -1,0 +1,36 @@
+-- Any two results that the contract of a public function allows are equal, with what every lent buffer then holds. Stated over the contracts' own readings.
+-- Assumes nothing.
+use mathlib.Core.Path.{_≡_, sym, _∙_}
+use denote.Ref.{now}
+use denote.Triple.Clauses.{AtExit}
+use contract.Lifetimes.{Lfts}
+use borrow.Fn.World.{ArgsD, ResD}
+use borrow.Fn.Kinds.{endedOf}
+use Rattle.sealing.proofs.w32.seal.{signature as signature-w32-seal}
+use Rattle.sealing.proofs.w32.seal.Kinds as kinds-w32-seal
+use Rattle.sealing.proofs.w32.seal.Reads.{Post as Post-w32-seal}
+use Rattle.sealing.proofs.w32.open.{signature as signature-w32-open}
+use Rattle.sealing.proofs.w32.open.Kinds as kinds-w32-open
+use Rattle.sealing.proofs.w32.open.Reads.{Post as Post-w32-open}
+use Rattle.sealing.proofs.w64.seal.{signature as signature-w64-seal}
+use Rattle.sealing.proofs.w64.seal.Kinds as kinds-w64-seal
+use Rattle.sealing.proofs.w64.seal.Reads.{Post as Post-w64-seal}
+use Rattle.sealing.proofs.w64.open.{signature as signature-w64-open}
+use Rattle.sealing.proofs.w64.open.Kinds as kinds-w64-open
+use Rattle.sealing.proofs.w64.open.Reads.{Post as Post-w64-open}
+
+pub one-seal-32 : (κs : Lfts 6) (a : ArgsD signature-w32-seal κs) (r r′ : ResD signature-w32-seal κs) (s s′ : AtExit (endedOf 6 kinds-w32-seal.ps kinds-w32-seal.r) κs)
+    → Post-w32-seal κs a r s → Post-w32-seal κs a r′ s′ → (r ≡ r′) × (now (s .1 .1 .1 .1 .1 .1 .0) ≡ now (s′ .1 .1 .1 .1 .1 .1 .0))
+one-seal-32 κs a r r′ s s′ p q = (p .0 ∙ sym (q .0), p .1 ∙ sym (q .1))
+
+pub one-open-32 : (κs : Lfts 6) (a : ArgsD signature-w32-open κs) (r r′ : ResD signature-w32-open κs) (s s′ : AtExit (endedOf 6 kinds-w32-open.ps kinds-w32-open.r) κs)
+    → Post-w32-open κs a r s → Post-w32-open κs a r′ s′ → (r ≡ r′) × (now (s .1 .1 .1 .1 .1 .1 .0) ≡ now (s′ .1 .1 .1 .1 .1 .1 .0))
+one-open-32 κs a r r′ s s′ p q = (p .0 ∙ sym (q .0), p .1 ∙ sym (q .1))
+
+pub one-seal-64 : (κs : Lfts 6) (a : ArgsD signature-w64-seal κs) (r r′ : ResD signature-w64-seal κs) (s s′ : AtExit (endedOf 6 kinds-w64-seal.ps kinds-w64-seal.r) κs)
+    → Post-w64-seal κs a r s → Post-w64-seal κs a r′ s′ → (r ≡ r′) × (now (s .1 .1 .1 .1 .1 .1 .0) ≡ now (s′ .1 .1 .1 .1 .1 .1 .0))
+one-seal-64 κs a r r′ s s′ p q = (p .0 ∙ sym (q .0), p .1 ∙ sym (q .1))
+
+pub one-open-64 : (κs : Lfts 6) (a : ArgsD signature-w64-open κs) (r r′ : ResD signature-w64-open κs) (s s′ : AtExit (endedOf 6 kinds-w64-open.ps kinds-w64-open.r) κs)
+    → Post-w64-open κs a r s → Post-w64-open κs a r′ s′ → (r ≡ r′) × (now (s .1 .1 .1 .1 .1 .1 .0) ≡ now (s′ .1 .1 .1 .1 .1 .1 .0))
+one-open-64 κs a r r′ s s′ p q = (p .0 ∙ sym (q .0), p .1 ∙ sym (q .1))

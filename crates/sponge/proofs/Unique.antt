@@ -1,0 +1,106 @@
+-- Any two results that the contract of a public function allows are equal, with what every lent buffer then holds. Stated over the contracts' own readings.
+-- Assumes nothing.
+use mathlib.Core.Path.{_≡_, sym, _∙_}
+use denote.Ref.{now}
+use denote.Triple.Clauses.{AtExit}
+use contract.Lifetimes.{Lfts}
+use borrow.Fn.World.{ArgsD, ResD}
+use borrow.Fn.Kinds.{endedOf}
+use Rattle.sponge.proofs.w32.ends.row.{signature as signature-w32-ends-row}
+use Rattle.sponge.proofs.w32.ends.row.Kinds as kinds-w32-ends-row
+use Rattle.sponge.proofs.w32.ends.row.Reads.{Post as Post-w32-ends-row}
+use Rattle.sponge.proofs.w32.ends.start.{signature as signature-w32-ends-start}
+use Rattle.sponge.proofs.w32.ends.start.Kinds as kinds-w32-ends-start
+use Rattle.sponge.proofs.w32.ends.start.Reads.{Post as Post-w32-ends-start}
+use Rattle.sponge.proofs.w32.ends.tag.{signature as signature-w32-ends-tag}
+use Rattle.sponge.proofs.w32.ends.tag.Kinds as kinds-w32-ends-tag
+use Rattle.sponge.proofs.w32.ends.tag.Reads.{Post as Post-w32-ends-tag}
+use Rattle.sponge.proofs.w32.parts.absorb.{signature as signature-w32-parts-absorb}
+use Rattle.sponge.proofs.w32.parts.absorb.Kinds as kinds-w32-parts-absorb
+use Rattle.sponge.proofs.w32.parts.absorb.Reads.{Post as Post-w32-parts-absorb}
+use Rattle.sponge.proofs.w32.parts.encrypt.{signature as signature-w32-parts-encrypt}
+use Rattle.sponge.proofs.w32.parts.encrypt.Kinds as kinds-w32-parts-encrypt
+use Rattle.sponge.proofs.w32.parts.encrypt.Reads.{Post as Post-w32-parts-encrypt}
+use Rattle.sponge.proofs.w32.parts.decrypt.{signature as signature-w32-parts-decrypt}
+use Rattle.sponge.proofs.w32.parts.decrypt.Kinds as kinds-w32-parts-decrypt
+use Rattle.sponge.proofs.w32.parts.decrypt.Reads.{Post as Post-w32-parts-decrypt}
+use Rattle.sponge.proofs.w64.ends.row.{signature as signature-w64-ends-row}
+use Rattle.sponge.proofs.w64.ends.row.Kinds as kinds-w64-ends-row
+use Rattle.sponge.proofs.w64.ends.row.Reads.{Post as Post-w64-ends-row}
+use Rattle.sponge.proofs.w64.ends.start.{signature as signature-w64-ends-start}
+use Rattle.sponge.proofs.w64.ends.start.Kinds as kinds-w64-ends-start
+use Rattle.sponge.proofs.w64.ends.start.Reads.{Post as Post-w64-ends-start}
+use Rattle.sponge.proofs.w64.ends.tag.{signature as signature-w64-ends-tag}
+use Rattle.sponge.proofs.w64.ends.tag.Kinds as kinds-w64-ends-tag
+use Rattle.sponge.proofs.w64.ends.tag.Reads.{Post as Post-w64-ends-tag}
+use Rattle.sponge.proofs.w64.parts.absorb.{signature as signature-w64-parts-absorb}
+use Rattle.sponge.proofs.w64.parts.absorb.Kinds as kinds-w64-parts-absorb
+use Rattle.sponge.proofs.w64.parts.absorb.Reads.{Post as Post-w64-parts-absorb}
+use Rattle.sponge.proofs.w64.parts.encrypt.{signature as signature-w64-parts-encrypt}
+use Rattle.sponge.proofs.w64.parts.encrypt.Kinds as kinds-w64-parts-encrypt
+use Rattle.sponge.proofs.w64.parts.encrypt.Reads.{Post as Post-w64-parts-encrypt}
+use Rattle.sponge.proofs.w64.parts.decrypt.{signature as signature-w64-parts-decrypt}
+use Rattle.sponge.proofs.w64.parts.decrypt.Kinds as kinds-w64-parts-decrypt
+use Rattle.sponge.proofs.w64.parts.decrypt.Reads.{Post as Post-w64-parts-decrypt}
+use Rattle.sponge.proofs.texts.same.{signature as signature-texts-same}
+use Rattle.sponge.proofs.texts.same.Kinds as kinds-texts-same
+use Rattle.sponge.proofs.texts.same.Reads.{Post as Post-texts-same}
+use Rattle.sponge.proofs.texts.clear.{signature as signature-texts-clear}
+use Rattle.sponge.proofs.texts.clear.Kinds as kinds-texts-clear
+use Rattle.sponge.proofs.texts.clear.Reads.{Post as Post-texts-clear}
+
+pub one-row-32 : (κs : Lfts 1) (a : ArgsD signature-w32-ends-row κs) (r r′ : ResD signature-w32-ends-row κs) (s s′ : AtExit (endedOf 1 kinds-w32-ends-row.ps kinds-w32-ends-row.r) κs)
+    → Post-w32-ends-row κs a r s → Post-w32-ends-row κs a r′ s′ → r ≡ r′
+one-row-32 κs a r r′ s s′ p q = p ∙ sym q
+
+pub one-start-32 : (κs : Lfts 0) (a : ArgsD signature-w32-ends-start κs) (r r′ : ResD signature-w32-ends-start κs) (s s′ : AtExit (endedOf 0 kinds-w32-ends-start.ps kinds-w32-ends-start.r) κs)
+    → Post-w32-ends-start κs a r s → Post-w32-ends-start κs a r′ s′ → r ≡ r′
+one-start-32 κs a r r′ s s′ p q = p ∙ sym q
+
+pub one-tag-32 : (κs : Lfts 0) (a : ArgsD signature-w32-ends-tag κs) (r r′ : ResD signature-w32-ends-tag κs) (s s′ : AtExit (endedOf 0 kinds-w32-ends-tag.ps kinds-w32-ends-tag.r) κs)
+    → Post-w32-ends-tag κs a r s → Post-w32-ends-tag κs a r′ s′ → r ≡ r′
+one-tag-32 κs a r r′ s s′ p q = p ∙ sym q
+
+pub one-absorb-32 : (κs : Lfts 1) (a : ArgsD signature-w32-parts-absorb κs) (r r′ : ResD signature-w32-parts-absorb κs) (s s′ : AtExit (endedOf 1 kinds-w32-parts-absorb.ps kinds-w32-parts-absorb.r) κs)
+    → Post-w32-parts-absorb κs a r s → Post-w32-parts-absorb κs a r′ s′ → r ≡ r′
+one-absorb-32 κs a r r′ s s′ p q = p ∙ sym q
+
+pub one-encrypt-32 : (κs : Lfts 2) (a : ArgsD signature-w32-parts-encrypt κs) (r r′ : ResD signature-w32-parts-encrypt κs) (s s′ : AtExit (endedOf 2 kinds-w32-parts-encrypt.ps kinds-w32-parts-encrypt.r) κs)
+    → Post-w32-parts-encrypt κs a r s → Post-w32-parts-encrypt κs a r′ s′ → (r ≡ r′) × (now (s .1 .1 .1 .0) ≡ now (s′ .1 .1 .1 .0))
+one-encrypt-32 κs a r r′ s s′ p q = (p .0 ∙ sym (q .0), p .1 ∙ sym (q .1))
+
+pub one-decrypt-32 : (κs : Lfts 2) (a : ArgsD signature-w32-parts-decrypt κs) (r r′ : ResD signature-w32-parts-decrypt κs) (s s′ : AtExit (endedOf 2 kinds-w32-parts-decrypt.ps kinds-w32-parts-decrypt.r) κs)
+    → Post-w32-parts-decrypt κs a r s → Post-w32-parts-decrypt κs a r′ s′ → (r ≡ r′) × (now (s .1 .1 .1 .0) ≡ now (s′ .1 .1 .1 .0))
+one-decrypt-32 κs a r r′ s s′ p q = (p .0 ∙ sym (q .0), p .1 ∙ sym (q .1))
+
+pub one-row-64 : (κs : Lfts 1) (a : ArgsD signature-w64-ends-row κs) (r r′ : ResD signature-w64-ends-row κs) (s s′ : AtExit (endedOf 1 kinds-w64-ends-row.ps kinds-w64-ends-row.r) κs)
+    → Post-w64-ends-row κs a r s → Post-w64-ends-row κs a r′ s′ → r ≡ r′
+one-row-64 κs a r r′ s s′ p q = p ∙ sym q
+
+pub one-start-64 : (κs : Lfts 0) (a : ArgsD signature-w64-ends-start κs) (r r′ : ResD signature-w64-ends-start κs) (s s′ : AtExit (endedOf 0 kinds-w64-ends-start.ps kinds-w64-ends-start.r) κs)
+    → Post-w64-ends-start κs a r s → Post-w64-ends-start κs a r′ s′ → r ≡ r′
+one-start-64 κs a r r′ s s′ p q = p ∙ sym q
+
+pub one-tag-64 : (κs : Lfts 0) (a : ArgsD signature-w64-ends-tag κs) (r r′ : ResD signature-w64-ends-tag κs) (s s′ : AtExit (endedOf 0 kinds-w64-ends-tag.ps kinds-w64-ends-tag.r) κs)
+    → Post-w64-ends-tag κs a r s → Post-w64-ends-tag κs a r′ s′ → r ≡ r′
+one-tag-64 κs a r r′ s s′ p q = p ∙ sym q
+
+pub one-absorb-64 : (κs : Lfts 1) (a : ArgsD signature-w64-parts-absorb κs) (r r′ : ResD signature-w64-parts-absorb κs) (s s′ : AtExit (endedOf 1 kinds-w64-parts-absorb.ps kinds-w64-parts-absorb.r) κs)
+    → Post-w64-parts-absorb κs a r s → Post-w64-parts-absorb κs a r′ s′ → r ≡ r′
+one-absorb-64 κs a r r′ s s′ p q = p ∙ sym q
+
+pub one-encrypt-64 : (κs : Lfts 2) (a : ArgsD signature-w64-parts-encrypt κs) (r r′ : ResD signature-w64-parts-encrypt κs) (s s′ : AtExit (endedOf 2 kinds-w64-parts-encrypt.ps kinds-w64-parts-encrypt.r) κs)
+    → Post-w64-parts-encrypt κs a r s → Post-w64-parts-encrypt κs a r′ s′ → (r ≡ r′) × (now (s .1 .1 .1 .0) ≡ now (s′ .1 .1 .1 .0))
+one-encrypt-64 κs a r r′ s s′ p q = (p .0 ∙ sym (q .0), p .1 ∙ sym (q .1))
+
+pub one-decrypt-64 : (κs : Lfts 2) (a : ArgsD signature-w64-parts-decrypt κs) (r r′ : ResD signature-w64-parts-decrypt κs) (s s′ : AtExit (endedOf 2 kinds-w64-parts-decrypt.ps kinds-w64-parts-decrypt.r) κs)
+    → Post-w64-parts-decrypt κs a r s → Post-w64-parts-decrypt κs a r′ s′ → (r ≡ r′) × (now (s .1 .1 .1 .0) ≡ now (s′ .1 .1 .1 .0))
+one-decrypt-64 κs a r r′ s s′ p q = (p .0 ∙ sym (q .0), p .1 ∙ sym (q .1))
+
+pub one-same : (κs : Lfts 2) (a : ArgsD signature-texts-same κs) (r r′ : ResD signature-texts-same κs) (s s′ : AtExit (endedOf 2 kinds-texts-same.ps kinds-texts-same.r) κs)
+    → Post-texts-same κs a r s → Post-texts-same κs a r′ s′ → r ≡ r′
+one-same κs a r r′ s s′ p q = p ∙ sym q
+
+pub one-clear : (κs : Lfts 1) (a : ArgsD signature-texts-clear κs) (r r′ : ResD signature-texts-clear κs) (s s′ : AtExit (endedOf 1 kinds-texts-clear.ps kinds-texts-clear.r) κs)
+    → Post-texts-clear κs a r s → Post-texts-clear κs a r′ s′ → now (s .0) ≡ now (s′ .0)
+one-clear κs a r r′ s s′ p q = p ∙ sym q
