@@ -1,15 +1,36 @@
-# make: proves every crate and shows what the programs write.   make test: the tests, and the merge gate last.
-.PHONY: all test clean
+# make: proves every crate, shows what the programs write, and builds the C library.
+# make test: the tests outside the proof, and then the merge gate.   make bench: the library beside a C implementation.
+.PHONY: all library test outside bench clean
 MAKEFLAGS += --no-print-directory
 
 all:
 	@echo "Proving every crate, then running each program and comparing what it writes:"
 	@rt check
 	@tests/show.sh vectors
+	@$(MAKE) library
+	@echo
+	@echo "The C library is target/staticlib/libjeczmilot.a, and its header include/jeczmilot.h"
 
-test:
+library:
+	@rt staticlib jeczmilot
+
+test: outside
+	@echo
 	@echo "The merge gate: every crate from nothing, every must-fail edit, every program:"
 	@rt ci
+
+outside: library
+	@echo "What the archive exports:"
+	@tests/archive.sh
+	@echo "The rows on limits:"
+	@tests/limits.sh
+	@echo "The README's program:"
+	@tests/readme.sh
+	@echo "The library beside an independent implementation:"
+	@tests/run.sh
+
+bench: library
+	@tests/bench.sh
 
 clean:
 	rm -rf target

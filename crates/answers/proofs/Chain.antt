@@ -1,11 +1,15 @@
--- What is known where a chain of refusals gives none.
+-- Chains of refusals: put together link by link, and what is known where one gives no refusal.
 -- Assumes nothing.
-use mathlib.Core.Path.{_≡_, refl}
+use mathlib.Core.Path.{_≡_, refl, ap₂, _∙_}
 use mathlib.Core.Bool.{Bool, true, false, _&&_}
 use Prim.Native.Nat.{ℕ}
 use native.Mathlib.Omega.{arith}
 use Rattle.answers.specs.declared.Answer.{Answer}
 use Rattle.answers.specs.Answers.{doneOf, needOf}
+
+-- one link of a chain, from what its test and the rest of the chain are
+pub link : (refusal : Answer) {ok ok′ : Bool} {rest rest′ given : Answer} → given ≡ needOf ok refusal rest → ok ≡ ok′ → rest ≡ rest′ → given ≡ needOf ok′ refusal rest′
+link refusal e f g = e ∙ ap₂ (λ (a : Bool) (b : Answer). needOf a refusal b) f g
 
 -- a link that gives no refusal: its test holds, and so does the rest
 pub passed : (ok : Bool) (refusal rest : Answer) → doneOf refusal ≡ false → doneOf (needOf ok refusal rest) ≡ true → (ok ≡ true) × (doneOf rest ≡ true)
