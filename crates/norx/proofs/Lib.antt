@@ -14,6 +14,7 @@ pub mod Stream
 pub mod Text
 pub mod Unseal
 pub mod Opening
+pub mod Pieces
 pub mod Rotate
 pub mod Steps
 pub mod Constants
