@@ -15,6 +15,7 @@ pub mod Text
 pub mod Unseal
 pub mod Opening
 pub mod Pieces
+pub mod Taken
 pub mod Rotate
 pub mod Steps
 pub mod Constants

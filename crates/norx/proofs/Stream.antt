@@ -59,7 +59,7 @@ module _ (w : Width) (l m : ℕ) where
   fed-some [] s i p h hb = absurd (not-suc-le-zero p)
   fed-some (b ∷ d) s i p h hb = fed-within d b s i h hb
 
-  ended-some : (s : State) (n : ℕ) → 0 < n → ended w l m s n ≡ xorBlock w (begun w l m s n) (padded (rate w) (zeros (n % rate w)))
+  pub ended-some : (s : State) (n : ℕ) → 0 < n → ended w l m s n ≡ xorBlock w (begun w l m s n) (padded (rate w) (zeros (n % rate w)))
   unfolding ended
   ended-some s zero h = absurd (not-suc-le-zero h)
   ended-some s (suc n) h = refl

@@ -16,7 +16,7 @@ use super::blocks::xor_block;
 
 const BODY: u32 = 0x02;
 
-fn absorb_full(s: [[u32; 4]; 4], rounds: u32, m: u32, d: &[u8]) -> [[u32; 4]; 4]
+pub(crate) fn absorb_full(s: [[u32; 4]; 4], rounds: u32, m: u32, d: &[u8]) -> [[u32; 4]; 4]
     ensures { λ q. ⌜ q ≡ afterBlocks word32 rounds m s (now (d .entry)) (length (now (d .entry)) / 48) ⌝ }
 {
     let mut t = s;
@@ -50,7 +50,7 @@ pub fn absorb(s: [[u32; 4]; 4], rounds: u32, m: u32, d: &[u8]) -> [[u32; 4]; 4]
     absorb_last(absorb_full(s, rounds, m, d), rounds, m, &d[at..])
 }
 
-fn encrypt_full(s: [[u32; 4]; 4], rounds: u32, d: &[u8], out: &mut [u8]) -> [[u32; 4]; 4]
+pub(crate) fn encrypt_full(s: [[u32; 4]; 4], rounds: u32, d: &[u8], out: &mut [u8]) -> [[u32; 4]; 4]
     requires { ⌜ length (now out) ≡ length (now d) ⌝ }
     ensures state { λ q. ⌜ q ≡ afterBlocks word32 rounds bodyMark s (now (d .entry)) (length (now (d .entry)) / 48) ⌝ }
     ensures text { λ _. ⌜ now (out .exit) ≡ cipherBlocks word32 rounds s (now (d .entry)) (length (now (d .entry)) / 48) ++ drop (length (now (d .entry)) / 48 * 48) (now (out .entry)) ⌝ }
