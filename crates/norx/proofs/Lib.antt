@@ -16,6 +16,8 @@ pub mod Unseal
 pub mod Opening
 pub mod Pieces
 pub mod Taken
+pub mod Shown
+pub mod Checked
 pub mod Rotate
 pub mod Steps
 pub mod Constants

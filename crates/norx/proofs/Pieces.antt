@@ -59,7 +59,7 @@ module _ (w : Width) (l : ℕ) where
       let f : t ≡ u = λ k. xorBlock w (begun-mod bodyMark s i j h k) (placed (h k) (e k ∷ [])) in
       λ k. e k ∷ (unfed-mod c t (suc i) (suc j) (suc-mod i j (rate w) h) ∙ ap (λ (v : State). unfed w l v (suc j) c) f) k
 
-  fed-nil : (m : ℕ) (s : State) (i j : ℕ) (x : List ℕ) → length x ≡ 0 → fed w l m s i x ≡ fed w l m s j x
+  pub fed-nil : (m : ℕ) (s : State) (i j : ℕ) (x : List ℕ) → length x ≡ 0 → fed w l m s i x ≡ fed w l m s j x
   unfolding fed
   fed-nil m s i j [] e = refl
   fed-nil m s i j (b ∷ x) e = let z : ⊥ = omega arith in absurd z

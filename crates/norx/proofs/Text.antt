@@ -72,7 +72,7 @@ module _ (w : Width) (l : ℕ) where
   text-nil s i = refl
 
   module _ (s : State) (d : List ℕ) (bytes : Bytes d) where
-    text-fulls : (q : ℕ) → q * rate w ≤ length d → fedText w l s 0 (take (q * rate w) d) ≡ cipherBlocks w l s d q
+    pub text-fulls : (q : ℕ) → q * rate w ≤ length d → fedText w l s 0 (take (q * rate w) d) ≡ cipherBlocks w l s d q
     unfolding fedText cipherBlocks
     text-fulls zero h = rw zero-mul
     text-fulls (suc q) h =

@@ -144,7 +144,7 @@ module _ (w : Width) (l : ℕ) where
         ∙ unfed-some x (afterBlocks w l bodyMark s a i) (i * R) (omega arith) bx
         ∙ ap₂ (λ (k : ℕ) (t : State). xors (take (length x) (drop k (rateOf w t))) x) whole (begun-start w l bodyMark (afterBlocks w l bodyMark s a i) (i * R) whole))
 
-    unfed-fulls : (i : ℕ) → i * rate w ≤ length c → unfed w l s 0 (take (i * rate w) c) ≡ messageBlocks w l s c i
+    pub unfed-fulls : (i : ℕ) → i * rate w ≤ length c → unfed w l s 0 (take (i * rate w) c) ≡ messageBlocks w l s c i
     unfolding unfed messageBlocks
     unfed-fulls zero h = rw zero-mul
     unfed-fulls (suc i) h =
