@@ -10,6 +10,7 @@ pub mod Replaced
 pub mod Overlay
 pub mod Blocks
 pub mod Messages
+pub mod Turns
 pub mod Stream
 pub mod Text
 pub mod Unseal

@@ -42,7 +42,7 @@ module _ (w : Width) (l : ℕ) (s : State) (c : List ℕ) where
       ∙ ap₂ (λ (a b : ℕ). a + b) (length-messageBlocks i (omega arith)) (length-block i h) ∙ sym (suc-mul i (rate w))
 
   -- the state takes in the block that was recovered
-  state-suc : (i : ℕ) → suc i * rate w ≤ length c
+  pub state-suc : (i : ℕ) → suc i * rate w ≤ length c
       → xorBlock w (readied i) (xors (rateOf w (readied i)) (run (rate w) i c)) ≡ afterBlocks w l bodyMark s (messageBlocks w l s c (suc i)) (suc i)
   state-suc i h =
       let le : i * rate w + rate w ≤ length c = rw (suc-mul i (rate w)) at h in

@@ -8,7 +8,6 @@ use super::blocks::enter;
 use super::words::load_row;
 use super::words::store_row;
 use super::words::xor_row;
-use permutation::w32::permute;
 use permutation::w32::upper_constants;
 
 // The words of a key or of a nonce; four zeros where it has not the length of one.
@@ -36,14 +35,14 @@ pub fn start(rounds: u32, k: [u32; 4], n: [u32; 4]) -> [[u32; 4]; 4]
     let u = upper_constants();
     let r2 = u[0];
     let r3 = xor_row(u[1], [32, rounds, 1, 128]);
-    keyed(k, permute([n, k, r2, r3], rounds))
+    keyed(k, enter([n, k, r2, r3], rounds, 0))
 }
 
 // The tag of a state that took in all its parts.
 pub fn tag(rounds: u32, k: [u32; 4], s: [[u32; 4]; 4]) -> [u8; 16]
     ensures { λ r. ⌜ r ≡ tagOf word32 rounds (tagBits word32) k s ⌝ }
 {
-    let t = keyed(k, permute(keyed(k, enter(s, rounds, 0x08)), rounds));
+    let t = keyed(k, enter(keyed(k, enter(s, rounds, 0x08)), rounds, 0));
     let mut b = [0u8; 16];
     store_row(t[3], &mut b);
     b

@@ -4,20 +4,21 @@ use borrow.Author.Needs.{needs}
 use mathlib.Core.Path.{_≡_, refl, sym, ap, _∙_}
 use mathlib.Core.List.{List}
 use Prim.Native.Nat.{ℕ}
-use Rattle.norx.specs.Norx.{word32, P, State, rows, row, rowAt, xorRow, constants, keyed, start}
+use Rattle.norx.specs.Norx.{word32, P, State, rows, row, rowAt, xorRow, constants, entered, keyed, start}
 use Rattle.norx.proofs.Slices.{list4}
+use Rattle.norx.proofs.Turns.{unmarked}
 use Rattle.sponge.proofs.w32.ends.start.Statement.{statement}
 use Rattle.sponge.proofs.w32.ends.start.Tie as tie
 
 returns : tie.Need-returns
-unfolding start
+unfolding start entered
 returns c =
     let x = c .before .before .before .before .before .before .args in
     let u = c .before .before .before .before .before .upper-constants .ensures in
     let r3 : c .before .before .xor-row .result ≡ xorRow (rowAt (constants word32) 3) (row 32 (x .rounds) 1 128) =
     c .before .before .xor-row .ensures ∙ ap (λ (s : State). xorRow (rowAt s 1) (row 32 (x .rounds) 1 128)) u in
     c .keyed .ensures
-    ∙ ap (keyed (x .k)) (c .before .permute .ensures ∙ ap (P word32 (x .rounds)) (list4 refl refl (ap (λ (s : State). rowAt s 0) u) r3))
+    ∙ ap (keyed (x .k)) (c .before .enter .ensures ∙ ap (P word32 (x .rounds)) (unmarked _ ∙ list4 refl refl (ap (λ (s : State). rowAt s 0) u) r3))
 
 pub start-spec : {M : Type 1} → statement M
 start-spec =

@@ -6,6 +6,7 @@ use native.Mathlib.Nat.{le-of-eq}
 use lib.Seq.{take-all}
 use Rattle.norx.specs.Norx.{word32, P, State, rowAt, bytesOfRow, entered, keyed, finished, tagOf}
 use Rattle.norx.proofs.Words.{length-bytesOfRow}
+use Rattle.norx.proofs.Turns.{unmarked}
 use Rattle.sponge.proofs.w32.ends.tag.Statement.{statement}
 use Rattle.sponge.proofs.w32.ends.tag.Tie as tie
 
@@ -16,8 +17,8 @@ returns c =
     let x = k2 .before .before .before .before .args in
     let t : k2 .keyed2 .result ≡ finished word32 (x .rounds) (x .k) (x .s) =
     k2 .keyed2 .ensures
-    ∙ ap (keyed (x .k)) (k2 .before .permute .ensures
-    ∙ ap (P word32 (x .rounds)) (k2 .before .before .keyed .ensures ∙ ap (keyed (x .k)) (k2 .before .before .before .enter .ensures))) in
+    ∙ ap (keyed (x .k)) (k2 .before .enter2 .ensures
+    ∙ ap (P word32 (x .rounds)) (unmarked _ ∙ k2 .before .before .keyed .ensures ∙ ap (keyed (x .k)) (k2 .before .before .before .enter .ensures))) in
     let r = rowAt (finished word32 (x .rounds) (x .k) (x .s)) 3 in
     c .before .store-row .ensures ∙ ap (λ (s : State). bytesOfRow word32 (rowAt s 3)) t ∙ sym (take-all 16 (bytesOfRow word32 r) (le-of-eq (length-bytesOfRow word32 r)))
 
