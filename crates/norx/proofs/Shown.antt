@@ -11,7 +11,8 @@ use lib.Seq.{length-take-le, drop-length}
 use Rattle.norx.specs.Norx.{Width, rate, State, rateOf, afterBlocks, bodyMark, cipherBlocks}
 use Rattle.norx.specs.Stream.{fed, fedText}
 use Rattle.norx.proofs.Bytes.{Bytes}
-use Rattle.norx.proofs.Slices.{put, put-next, blocks-le}
+use Rattle.norx.proofs.Words.{length-rateOf}
+use Rattle.norx.proofs.Slices.{put, put-next, copied, cut, blocks-le}
 use Rattle.norx.proofs.Blocks.{rate-pos, fulls, left, length-cipherBlocks}
 use Rattle.norx.proofs.Stream.{fed-fulls}
 use Rattle.norx.proofs.Text.{text-some, text-append, text-fulls}
@@ -39,6 +40,22 @@ module _ (w : Width) (l : ℕ) where
   shown-of s i [] h bytes ht hy = hy
   shown-of s i (b ∷ d) h bytes ht hy =
       hy ∙ ap (λ (x : State). take (suc (length d)) (drop (i % rate w) (rateOf w x))) ht ∙ sym (text-some w l (b ∷ d) s i (omega arith) h bytes)
+
+  -- as code shows them: copied from place j of the rate's bytes to an output o
+  pub rate-shown : (t : State) (j : ℕ) (o : List ℕ) {r y : List ℕ} → j + length o ≤ rate w → r ≡ rateOf w t
+      → y ≡ take (length (take (j + length o - j) (drop j r))) (take (j + length o - j) (drop j r)) ++ drop (length (take (j + length o - j) (drop j r))) o
+      → y ≡ take (length o) (drop j (rateOf w t))
+  rate-shown t j o {r} {y} h hr hy =
+      let n : ℕ = length o in
+      let len : length r ≡ rate w = ap length hr ∙ length-rateOf w t in
+      let src : length (take (j + n - j) (drop j r)) ≡ n = ap length (cut n j r) ∙ length-take-le n (drop j r) (omega (arith, length-drop j r)) in
+      hy ∙ copied (take (j + n - j) (drop j r)) o src ∙ cut n j r ∙ ap (λ (x : List ℕ). take n (drop j x)) hr
+
+  pub begun-shown : (s : State) (j : ℕ) (d o : List ℕ) {t : State} {y : List ℕ} → j < rate w → j + length d ≤ rate w → length o ≡ length d → Bytes d
+      → t ≡ fed w l bodyMark s j d → y ≡ take (length o) (drop j (rateOf w t)) → y ≡ fedText w l s j d
+  begun-shown s j d o {t} {y} lt h e bytes ht hy =
+      let m : j % rate w ≡ j = mod-eq-of-lt lt in
+      shown-of s j d (omega arith) bytes ht (hy ∙ ap₂ (λ (a b : ℕ). take a (drop b (rateOf w t))) e (sym m))
 
   -- bytes that begin a block: the full blocks, and the bytes left
   pub text-aligned : (s : State) (d : List ℕ) → Bytes d

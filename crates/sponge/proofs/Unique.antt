@@ -24,6 +24,18 @@ use Rattle.sponge.proofs.w32.parts.encrypt.Reads.{Post as Post-w32-part
 use Rattle.sponge.proofs.w32.parts.decrypt.{signature as signature-w32-parts-decrypt}
 use Rattle.sponge.proofs.w32.parts.decrypt.Kinds as kinds-w32-parts-decrypt
 use Rattle.sponge.proofs.w32.parts.decrypt.Reads.{Post as Post-w32-parts-decrypt}
+use Rattle.sponge.proofs.w32.pieces.feed.{signature as signature-w32-pieces-feed}
+use Rattle.sponge.proofs.w32.pieces.feed.Kinds as kinds-w32-pieces-feed
+use Rattle.sponge.proofs.w32.pieces.feed.Reads.{Post as Post-w32-pieces-feed}
+use Rattle.sponge.proofs.w32.pieces.end.{signature as signature-w32-pieces-end}
+use Rattle.sponge.proofs.w32.pieces.end.Kinds as kinds-w32-pieces-end
+use Rattle.sponge.proofs.w32.pieces.end.Reads.{Post as Post-w32-pieces-end}
+use Rattle.sponge.proofs.w32.pieces.seal.{signature as signature-w32-pieces-seal}
+use Rattle.sponge.proofs.w32.pieces.seal.Kinds as kinds-w32-pieces-seal
+use Rattle.sponge.proofs.w32.pieces.seal.Reads.{Post as Post-w32-pieces-seal}
+use Rattle.sponge.proofs.w32.pieces.check.{signature as signature-w32-pieces-check}
+use Rattle.sponge.proofs.w32.pieces.check.Kinds as kinds-w32-pieces-check
+use Rattle.sponge.proofs.w32.pieces.check.Reads.{Post as Post-w32-pieces-check}
 use Rattle.sponge.proofs.w64.ends.row.{signature as signature-w64-ends-row}
 use Rattle.sponge.proofs.w64.ends.row.Kinds as kinds-w64-ends-row
 use Rattle.sponge.proofs.w64.ends.row.Reads.{Post as Post-w64-ends-row}
@@ -42,6 +54,18 @@ use Rattle.sponge.proofs.w64.parts.encrypt.Reads.{Post as Post-w64-part
 use Rattle.sponge.proofs.w64.parts.decrypt.{signature as signature-w64-parts-decrypt}
 use Rattle.sponge.proofs.w64.parts.decrypt.Kinds as kinds-w64-parts-decrypt
 use Rattle.sponge.proofs.w64.parts.decrypt.Reads.{Post as Post-w64-parts-decrypt}
+use Rattle.sponge.proofs.w64.pieces.feed.{signature as signature-w64-pieces-feed}
+use Rattle.sponge.proofs.w64.pieces.feed.Kinds as kinds-w64-pieces-feed
+use Rattle.sponge.proofs.w64.pieces.feed.Reads.{Post as Post-w64-pieces-feed}
+use Rattle.sponge.proofs.w64.pieces.end.{signature as signature-w64-pieces-end}
+use Rattle.sponge.proofs.w64.pieces.end.Kinds as kinds-w64-pieces-end
+use Rattle.sponge.proofs.w64.pieces.end.Reads.{Post as Post-w64-pieces-end}
+use Rattle.sponge.proofs.w64.pieces.seal.{signature as signature-w64-pieces-seal}
+use Rattle.sponge.proofs.w64.pieces.seal.Kinds as kinds-w64-pieces-seal
+use Rattle.sponge.proofs.w64.pieces.seal.Reads.{Post as Post-w64-pieces-seal}
+use Rattle.sponge.proofs.w64.pieces.check.{signature as signature-w64-pieces-check}
+use Rattle.sponge.proofs.w64.pieces.check.Kinds as kinds-w64-pieces-check
+use Rattle.sponge.proofs.w64.pieces.check.Reads.{Post as Post-w64-pieces-check}
 use Rattle.sponge.proofs.texts.same.{signature as signature-texts-same}
 use Rattle.sponge.proofs.texts.same.Kinds as kinds-texts-same
 use Rattle.sponge.proofs.texts.same.Reads.{Post as Post-texts-same}
@@ -73,6 +97,22 @@ pub one-decrypt-32 : (κs : Lfts 2) (a : ArgsD signature-w32-parts-decrypt κs) 
     → Post-w32-parts-decrypt κs a r s → Post-w32-parts-decrypt κs a r′ s′ → (r ≡ r′) × (now (s .1 .1 .1 .0) ≡ now (s′ .1 .1 .1 .0))
 one-decrypt-32 κs a r r′ s s′ p q = (p .0 ∙ sym (q .0), p .1 ∙ sym (q .1))
 
+pub one-feed-32 : (κs : Lfts 1) (a : ArgsD signature-w32-pieces-feed κs) (r r′ : ResD signature-w32-pieces-feed κs) (s s′ : AtExit (endedOf 1 kinds-w32-pieces-feed.ps kinds-w32-pieces-feed.r) κs)
+    → Post-w32-pieces-feed κs a r s → Post-w32-pieces-feed κs a r′ s′ → r ≡ r′
+one-feed-32 κs a r r′ s s′ p q = p ∙ sym q
+
+pub one-end-32 : (κs : Lfts 0) (a : ArgsD signature-w32-pieces-end κs) (r r′ : ResD signature-w32-pieces-end κs) (s s′ : AtExit (endedOf 0 kinds-w32-pieces-end.ps kinds-w32-pieces-end.r) κs)
+    → Post-w32-pieces-end κs a r s → Post-w32-pieces-end κs a r′ s′ → r ≡ r′
+one-end-32 κs a r r′ s s′ p q = p ∙ sym q
+
+pub one-seal-32 : (κs : Lfts 2) (a : ArgsD signature-w32-pieces-seal κs) (r r′ : ResD signature-w32-pieces-seal κs) (s s′ : AtExit (endedOf 2 kinds-w32-pieces-seal.ps kinds-w32-pieces-seal.r) κs)
+    → Post-w32-pieces-seal κs a r s → Post-w32-pieces-seal κs a r′ s′ → (r ≡ r′) × (now (s .1 .1 .1 .1 .0) ≡ now (s′ .1 .1 .1 .1 .0))
+one-seal-32 κs a r r′ s s′ p q = (p .0 ∙ sym (q .0), p .1 ∙ sym (q .1))
+
+pub one-check-32 : (κs : Lfts 1) (a : ArgsD signature-w32-pieces-check κs) (r r′ : ResD signature-w32-pieces-check κs) (s s′ : AtExit (endedOf 1 kinds-w32-pieces-check.ps kinds-w32-pieces-check.r) κs)
+    → Post-w32-pieces-check κs a r s → Post-w32-pieces-check κs a r′ s′ → r ≡ r′
+one-check-32 κs a r r′ s s′ p q = p ∙ sym q
+
 pub one-row-64 : (κs : Lfts 1) (a : ArgsD signature-w64-ends-row κs) (r r′ : ResD signature-w64-ends-row κs) (s s′ : AtExit (endedOf 1 kinds-w64-ends-row.ps kinds-w64-ends-row.r) κs)
     → Post-w64-ends-row κs a r s → Post-w64-ends-row κs a r′ s′ → r ≡ r′
 one-row-64 κs a r r′ s s′ p q = p ∙ sym q
@@ -96,6 +136,22 @@ one-encrypt-64 κs a r r′ s s′ p q = (p .0 ∙ sym (q .0), p .1 ∙ sym (q .
 pub one-decrypt-64 : (κs : Lfts 2) (a : ArgsD signature-w64-parts-decrypt κs) (r r′ : ResD signature-w64-parts-decrypt κs) (s s′ : AtExit (endedOf 2 kinds-w64-parts-decrypt.ps kinds-w64-parts-decrypt.r) κs)
     → Post-w64-parts-decrypt κs a r s → Post-w64-parts-decrypt κs a r′ s′ → (r ≡ r′) × (now (s .1 .1 .1 .0) ≡ now (s′ .1 .1 .1 .0))
 one-decrypt-64 κs a r r′ s s′ p q = (p .0 ∙ sym (q .0), p .1 ∙ sym (q .1))
+
+pub one-feed-64 : (κs : Lfts 1) (a : ArgsD signature-w64-pieces-feed κs) (r r′ : ResD signature-w64-pieces-feed κs) (s s′ : AtExit (endedOf 1 kinds-w64-pieces-feed.ps kinds-w64-pieces-feed.r) κs)
+    → Post-w64-pieces-feed κs a r s → Post-w64-pieces-feed κs a r′ s′ → r ≡ r′
+one-feed-64 κs a r r′ s s′ p q = p ∙ sym q
+
+pub one-end-64 : (κs : Lfts 0) (a : ArgsD signature-w64-pieces-end κs) (r r′ : ResD signature-w64-pieces-end κs) (s s′ : AtExit (endedOf 0 kinds-w64-pieces-end.ps kinds-w64-pieces-end.r) κs)
+    → Post-w64-pieces-end κs a r s → Post-w64-pieces-end κs a r′ s′ → r ≡ r′
+one-end-64 κs a r r′ s s′ p q = p ∙ sym q
+
+pub one-seal-64 : (κs : Lfts 2) (a : ArgsD signature-w64-pieces-seal κs) (r r′ : ResD signature-w64-pieces-seal κs) (s s′ : AtExit (endedOf 2 kinds-w64-pieces-seal.ps kinds-w64-pieces-seal.r) κs)
+    → Post-w64-pieces-seal κs a r s → Post-w64-pieces-seal κs a r′ s′ → (r ≡ r′) × (now (s .1 .1 .1 .1 .0) ≡ now (s′ .1 .1 .1 .1 .0))
+one-seal-64 κs a r r′ s s′ p q = (p .0 ∙ sym (q .0), p .1 ∙ sym (q .1))
+
+pub one-check-64 : (κs : Lfts 1) (a : ArgsD signature-w64-pieces-check κs) (r r′ : ResD signature-w64-pieces-check κs) (s s′ : AtExit (endedOf 1 kinds-w64-pieces-check.ps kinds-w64-pieces-check.r) κs)
+    → Post-w64-pieces-check κs a r s → Post-w64-pieces-check κs a r′ s′ → r ≡ r′
+one-check-64 κs a r r′ s s′ p q = p ∙ sym q
 
 pub one-same : (κs : Lfts 2) (a : ArgsD signature-texts-same κs) (r r′ : ResD signature-texts-same κs) (s s′ : AtExit (endedOf 2 kinds-texts-same.ps kinds-texts-same.r) κs)
     → Post-texts-same κs a r s → Post-texts-same κs a r′ s′ → r ≡ r′

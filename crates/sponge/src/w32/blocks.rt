@@ -84,6 +84,13 @@ fn marked(s: [[u32; 4]; 4], m: u32) -> [[u32; 4]; 4]
     t
 }
 
+// What comes before each block: the mark, and P.
+fn marked_and_permuted(s: [[u32; 4]; 4], rounds: u32, m: u32) -> [[u32; 4]; 4]
+    ensures { λ q. ⌜ q ≡ entered word32 rounds m s ⌝ }
+{
+    permute(marked(s, m), rounds)
+}
+
 // The bytes of s0..s11 written at a place of the output, where they are asked for.
 fn show(s: [[u32; 4]; 4], writing: bool, out: &mut [u8], at: usize)
     requires { ⌜ (writing ≡ true → at + 48 ≤ length (now out)) ⌝ }
@@ -102,7 +109,7 @@ fn settled(e: [[u32; 4]; 4], x: [[u32; 4]; 4], opening: bool, b: &[u8]) -> [[u32
     if opening { replaced(e, b) } else { x }
 }
 
-// Every full block of a text, for each part and either way: P is called here and nowhere else, so that it is compiled into the loop and the state stays in registers.
+// Every full block of a text, for each part and either way: the only way to P, so that it is compiled into this loop and the state stays in registers.
 pub(crate) fn turns(
     s: [[u32; 4]; 4],
     rounds: u32,
@@ -120,7 +127,7 @@ pub(crate) fn turns(
     let mut i = 0;
     while i < n {
         let at = i * 48;
-        let e = permute(marked(t, m), rounds);
+        let e = marked_and_permuted(t, rounds, m);
         let x = xor_block(e, &d[at..at + 48]);
         show(x, writing, &mut *out, at);
         let u = settled(e, x, opening, &d[at..at + 48]);

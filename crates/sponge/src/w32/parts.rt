@@ -36,10 +36,11 @@ fn absorb_last(s: [[u32; 4]; 4], rounds: u32, m: u32, left: &[u8]) -> [[u32; 4];
 pub fn absorb(s: [[u32; 4]; 4], rounds: u32, m: u32, d: &[u8]) -> [[u32; 4]; 4]
     ensures { λ q. ⌜ q ≡ afterPart word32 rounds m s (now (d .entry)) ⌝ }
 {
-    if d.len() == 0 {
+    let n = d.len();
+    if n == 0 {
         return s;
     }
-    let at = d.len() / 48 * 48;
+    let at = n / 48 * 48;
     absorb_last(absorb_full(s, rounds, m, d), rounds, m, &d[at..])
 }
 

@@ -36,10 +36,11 @@ fn absorb_last(s: [[u64; 4]; 4], rounds: u32, m: u64, left: &[u8]) -> [[u64; 4];
 pub fn absorb(s: [[u64; 4]; 4], rounds: u32, m: u64, d: &[u8]) -> [[u64; 4]; 4]
     ensures { λ q. ⌜ q ≡ afterPart word64 rounds m s (now (d .entry)) ⌝ }
 {
-    if d.len() == 0 {
+    let n = d.len();
+    if n == 0 {
         return s;
     }
-    let at = d.len() / 96 * 96;
+    let at = n / 96 * 96;
     absorb_last(absorb_full(s, rounds, m, d), rounds, m, &d[at..])
 }
 

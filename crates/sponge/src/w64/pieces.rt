@@ -6,13 +6,13 @@ ghost use mathlib.Core.Logic.{_⊎_};
 ghost use Prim.Native.Nat.{_+_, _-_, _*_, _/_, _%_, _<_, _≤_};
 ghost use lib.Dec.{eqb};
 ghost use lib.ListN.{length, take, drop, replicate};
-ghost use Rattle.norx.specs.Norx.{word64, bodyMark, afterBlocks, messageBlocks};
+ghost use Rattle.norx.specs.Norx.{word64, bodyMark, rateOf};
 ghost use Rattle.norx.specs.Stream.{placed as placedOf, fed, fedText, unfed, ended as endedOf};
 use super::blocks::enter;
 use super::blocks::filled;
 use super::blocks::padded;
 use super::blocks::rate_bytes;
-use super::blocks::replaced;
+use super::blocks::turns;
 use super::blocks::xor_block;
 use super::parts::absorb_full;
 use super::parts::encrypt_full;
@@ -96,4 +96,116 @@ pub fn end(s: [[u64; 4]; 4], rounds: u32, m: u64, n: usize) -> [[u64; 4]; 4]
         return xor_block(enter(s, rounds, m), &b);
     }
     xor_block(s, &b)
+}
+
+// As many of the rate's bytes, from place j on, as the output is long.
+fn show_rate(t: [[u64; 4]; 4], j: usize, out: &mut [u8])
+    requires { ⌜ j + length (now out) ≤ 96 ⌝ }
+    ensures { λ _. ⌜ now (out .exit) ≡ take (length (now (out .entry))) (drop j (rateOf word64 t)) ⌝ }
+{
+    let r = rate_bytes(t);
+    let e = j + out.len();
+    bytes::copy(&r[j..e], out);
+}
+
+// Bytes of a body that fill a begun block, and their ciphertext.
+fn seal_begun(s: [[u64; 4]; 4], rounds: u32, j: usize, d: &[u8], out: &mut [u8]) -> [[u64; 4]; 4]
+    requires { ⌜ (j < 96) × (j + length (now d) ≤ 96) × (0 < length (now d) → 0 < j) × (length (now out) ≡ length (now d)) ⌝ }
+    ensures state { λ q. ⌜ q ≡ fed word64 rounds bodyMark s j (now (d .entry)) ⌝ }
+    ensures text { λ _. ⌜ now (out .exit) ≡ fedText word64 rounds s j (now (d .entry)) ⌝ }
+{
+    let t = feed_begun(s, rounds, BODY, j, d);
+    show_rate(t, j, out);
+    t
+}
+
+fn seal_left(s: [[u64; 4]; 4], rounds: u32, left: &[u8], out: &mut [u8]) -> [[u64; 4]; 4]
+    requires { ⌜ (length (now left) < 96) × (length (now out) ≡ length (now left)) ⌝ }
+    ensures state { λ q. ⌜ q ≡ fed word64 rounds bodyMark s 0 (now (left .entry)) ⌝ }
+    ensures text { λ _. ⌜ now (out .exit) ≡ fedText word64 rounds s 0 (now (left .entry)) ⌝ }
+{
+    let t = feed_left(s, rounds, BODY, left);
+    show_rate(t, 0, out);
+    t
+}
+
+fn seal_aligned(s: [[u64; 4]; 4], rounds: u32, d: &[u8], out: &mut [u8]) -> [[u64; 4]; 4]
+    requires { ⌜ length (now out) ≡ length (now d) ⌝ }
+    ensures state { λ q. ⌜ q ≡ fed word64 rounds bodyMark s 0 (now (d .entry)) ⌝ }
+    ensures text { λ _. ⌜ now (out .exit) ≡ fedText word64 rounds s 0 (now (d .entry)) ⌝ }
+{
+    let at = d.len() / 96 * 96;
+    let t = encrypt_full(s, rounds, d, &mut *out);
+    seal_left(t, rounds, &d[at..], &mut out[at..])
+}
+
+fn seal_exact(s: [[u64; 4]; 4], rounds: u32, n: usize, d: &[u8], out: &mut [u8]) -> [[u64; 4]; 4]
+    requires { ⌜ length (now out) ≡ length (now d) ⌝ }
+    ensures state { λ q. ⌜ q ≡ fed word64 rounds bodyMark s n (now (d .entry)) ⌝ }
+    ensures text { λ _. ⌜ now (out .exit) ≡ fedText word64 rounds s n (now (d .entry)) ⌝ }
+{
+    let j = n % 96;
+    let k = filling(j, d.len());
+    let t = seal_begun(s, rounds, j, &d[0..k], &mut out[0..k]);
+    seal_aligned(t, rounds, &d[k..], &mut out[k..])
+}
+
+// A piece of a body taken in, and its ciphertext written; nothing where the output is not as long as the piece.
+pub fn seal(s: [[u64; 4]; 4], rounds: u32, n: usize, d: &[u8], out: &mut [u8]) -> [[u64; 4]; 4]
+    ensures state { λ q. ⌜ q ≡ cond (eqb (length (now (out .entry))) (length (now (d .entry)))) (fed word64 rounds bodyMark s n (now (d .entry))) s ⌝ }
+    ensures text { λ _. ⌜ now (out .exit) ≡ cond (eqb (length (now (out .entry))) (length (now (d .entry)))) (fedText word64 rounds s n (now (d .entry))) (now (out .entry)) ⌝ }
+{
+    if out.len() == d.len() {
+        seal_exact(s, rounds, n, d, out)
+    } else {
+        s
+    }
+}
+
+// Ciphertext that fills a begun block: its message is taken in.
+fn check_begun(s: [[u64; 4]; 4], rounds: u32, j: usize, c: &[u8]) -> [[u64; 4]; 4]
+    requires { ⌜ (j + length (now c) ≤ 96) × (0 < length (now c) → 0 < j) ⌝ }
+    ensures { λ q. ⌜ q ≡ fed word64 rounds bodyMark s j (unfed word64 rounds s j (now (c .entry))) ⌝ }
+{
+    if c.len() == 0 {
+        return s;
+    }
+    let b = placed(j, c);
+    let r = rate_bytes(xor_block(s, &b));
+    let e = j + c.len();
+    let p = placed(j, &r[j..e]);
+    xor_block(s, &p)
+}
+
+fn check_left(s: [[u64; 4]; 4], rounds: u32, left: &[u8]) -> [[u64; 4]; 4]
+    requires { ⌜ length (now left) < 96 ⌝ }
+    ensures { λ q. ⌜ q ≡ fed word64 rounds bodyMark s 0 (unfed word64 rounds s 0 (now (left .entry))) ⌝ }
+{
+    if left.len() == 0 {
+        return s;
+    }
+    let e = enter(s, rounds, BODY);
+    let b = filled(left);
+    let r = rate_bytes(xor_block(e, &b));
+    let k = left.len();
+    let p = filled(&r[0..k]);
+    xor_block(e, &p)
+}
+
+fn check_aligned(s: [[u64; 4]; 4], rounds: u32, c: &[u8]) -> [[u64; 4]; 4]
+    ensures { λ q. ⌜ q ≡ fed word64 rounds bodyMark s 0 (unfed word64 rounds s 0 (now (c .entry))) ⌝ }
+{
+    let at = c.len() / 96 * 96;
+    let mut none = [0u8; 1];
+    let t = turns(s, rounds, BODY, true, c, &mut none);
+    check_left(t, rounds, &c[at..])
+}
+
+// A piece of a body's ciphertext: its message is taken in, and nothing is written.
+pub fn check(s: [[u64; 4]; 4], rounds: u32, n: usize, c: &[u8]) -> [[u64; 4]; 4]
+    ensures { λ q. ⌜ q ≡ fed word64 rounds bodyMark s n (unfed word64 rounds s n (now (c .entry))) ⌝ }
+{
+    let j = n % 96;
+    let k = filling(j, c.len());
+    check_aligned(check_begun(s, rounds, j, &c[0..k]), rounds, &c[k..])
 }

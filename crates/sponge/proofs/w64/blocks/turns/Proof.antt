@@ -32,21 +32,20 @@ loop-holds c =
 
 show-requires : tie.Need-show-requires Inv-loop μ-loop
 show-requires c κs =
-    let x = c .before .before .before .before .before .before .before .before .before .args in
+    let x = c .before .before .before .before .before .before .before .before .args in
     λ e. omega (arith, eqb-true (length (x .out .now)) (length (x .d .now)) e)
 
 loop-again : tie.Need-loop-again Inv-loop μ-loop
-unfolding entered
 loop-again c =
     let showed = c .before .before .before .before in
     let block = showed .before .before in
     let mixed = block .before .before in
-    let at-loop = mixed .before .before .before in
+    let at-loop = mixed .before .before in
     let x = at-loop .before .before .before .args in
     let d = x .d .now in
     let i = at-loop .loop .i in
     let writing : Bool = eqb (length (x .out .now)) (length d) in
-    let he = mixed .permute .ensures ∙ ap (P word64 (x .rounds)) (mixed .before .marked .ensures) in
+    let he = mixed .marked-and-permuted .ensures in
     let part = cut 96 (i * 96) d in
     let next =
     taken-next word64 (x .rounds) (x .m) (x .opening) (x .s) d i (at-loop .loop .inv .1) he part (block .xor-block .ensures) part (c .settled .ensures) in
@@ -67,6 +66,6 @@ pub turns-spec : {M : Type 1} → statement M
 turns-spec =
     tie.close
     (tie.spec
-    Inv-loop μ-loop loop-holds (λ c. search needs) (λ c κs. search needs) (λ c κs. search needs) (λ c. search needs) (λ c. search needs)
+    Inv-loop μ-loop loop-holds (λ c. search needs) (λ c κs. search needs) (λ c. search needs) (λ c. search needs)
     (λ c. search needs) (λ c. search needs) (λ c κs. search needs) show-requires (λ c. search needs) (λ c. search needs) (λ c. search needs)
     (λ c. search needs) (λ c κs. search needs) (λ c. search needs) (λ c. search needs) loop-again (λ c. search needs) returns)
