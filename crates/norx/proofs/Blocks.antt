@@ -13,7 +13,8 @@ use lib.Dec.{ltb, lit<}
 use lib.ListN.{length, take, drop, length-append, length-drop}
 use lib.Seq.{take-all, length-take-le, take-append-le, drop-append-le, drop-drop, drop-length}
 use Rattle.norx.specs.Norx.{Width, word32, word64, rate, run, State, blockCount, block, padded, xorBlock, rateOf, entered, afterBlocks, afterPart, bodyMark, cipherBlocks, ciphertext}
-use Rattle.norx.proofs.Slices.{empty, blocks-le, left-lt, put, put-next}
+use Rattle.norx.specs.Turns.{put}
+use Rattle.norx.proofs.Slices.{empty, blocks-le, left-lt, put-next}
 use Rattle.norx.proofs.Words.{length-rateOf}
 use Rattle.norx.proofs.Rate.{length-run}
 

@@ -11,7 +11,8 @@ use lib.ListN.{length, take, drop, length-append, length-drop}
 use lib.Seq.{take-all, length-take-le, take-length, drop-at, drop-drop, drop-length}
 use Rattle.norx.specs.Norx.{Width, rate, run, xors, State, blockCount, padded, xorBlock, rateOf, entered, afterBlocks, afterPart, bodyMark, messageBlocks, message}
 use Rattle.norx.proofs.Xor.{length-xors}
-use Rattle.norx.proofs.Slices.{empty, blocks-le, put, put-next}
+use Rattle.norx.specs.Turns.{put}
+use Rattle.norx.proofs.Slices.{empty, blocks-le, put-next}
 use Rattle.norx.proofs.Words.{length-rateOf}
 use Rattle.norx.proofs.Rate.{length-run}
 use Rattle.norx.proofs.Blocks.{rate-pos, fulls, left, left-short, run-left, count-some, after-prefix, after-suc, part-none, part-last}

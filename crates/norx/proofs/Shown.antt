@@ -12,7 +12,8 @@ use Rattle.norx.specs.Norx.{Width, rate, State, rateOf, afterBlocks, bod
 use Rattle.norx.specs.Stream.{fed, fedText}
 use Rattle.norx.proofs.Bytes.{Bytes}
 use Rattle.norx.proofs.Words.{length-rateOf}
-use Rattle.norx.proofs.Slices.{put, put-next, copied, cut, blocks-le}
+use Rattle.norx.specs.Turns.{put}
+use Rattle.norx.proofs.Slices.{put-next, copied, cut, blocks-le}
 use Rattle.norx.proofs.Blocks.{rate-pos, fulls, left, length-cipherBlocks}
 use Rattle.norx.proofs.Stream.{fed-fulls}
 use Rattle.norx.proofs.Text.{text-some, text-append, text-fulls}

@@ -6,6 +6,7 @@ use Prim.Native.Nat.{ℕ, zero, suc, _+_, _-_, _*_, _/_, _%_, _<_, _≤_}
 use native.Mathlib.Nat.{zero-sub, sub-zero, suc-sub-suc, le-of-eq, div-add-mod', mod-lt, not-suc-le-zero, le-of-suc-le-suc}
 use native.Mathlib.Omega.{arith}
 use lib.ListN.{length, getD, take, drop, replicate, length-append, length-drop, drop-of-length-le}
+use Rattle.norx.specs.Turns.{put}
 use lib.Seq.{sets, sets-eq, take-at, drop-at, drop-drop, take-all, take-length}
 
 -- `&l[a..a + n]`
@@ -57,10 +58,6 @@ blocks-le n R h = omega (arith, div-add-mod' n R)
 
 pub left-lt : (n R : ℕ) → 0 < R → n - n / R * R < R
 left-lt n R h = omega (arith, div-add-mod' n R, mod-lt n h)
-
--- what l is once a part of it, n elements from a, was lent and came back as ys
-abbrev pub put : List ℕ → ℕ → List ℕ → ℕ → List ℕ
-put l a ys n = take a l ++ (ys ++ drop n (drop a l))
 
 pub put-next : (p q ys : List ℕ) (a n : ℕ) → length p ≡ a → put (p ++ q) a ys n ≡ (p ++ ys) ++ drop n q
 put-next p q ys a n h =

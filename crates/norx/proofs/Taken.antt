@@ -11,7 +11,8 @@ use lib.Seq.{take-length}
 use Rattle.norx.specs.Norx.{Width, rate, State, xorBlock, entered, padded, afterBlocks}
 use Rattle.norx.specs.Stream.{placed, fed, ended}
 use Rattle.norx.proofs.Bytes.{Bytes, zeros, length-zeros}
-use Rattle.norx.proofs.Slices.{put, drop-replicate, take-replicate}
+use Rattle.norx.specs.Turns.{put}
+use Rattle.norx.proofs.Slices.{drop-replicate, take-replicate}
 use Rattle.norx.proofs.Overlay.{block-same, same-zeros}
 use Rattle.norx.proofs.Blocks.{rate-pos, fulls, left}
 use Rattle.norx.proofs.Stream.{begun-start, begun-within, fed-some, fed-left, ended-some}

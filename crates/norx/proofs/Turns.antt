@@ -16,22 +16,11 @@ use Rattle.norx.specs.Norx.{Width, word32, word64, rate, wordOf, run, xo
 use Rattle.norx.proofs.Bytes.{Bytes, bytes-run}
 use Rattle.norx.proofs.Words.{length-rateOf}
 use Rattle.norx.proofs.Rate.{length-run, rate-add}
-use Rattle.norx.proofs.Slices.{put, put-next}
+use Rattle.norx.specs.Turns.{put, taken, shown}
+use Rattle.norx.proofs.Slices.{put-next}
 use Rattle.norx.proofs.Owned.{Words, four, Whole, four-rows}
 use Rattle.norx.proofs.Blocks.{after-suc, cipher-suc}
 use Rattle.norx.proofs.Messages.{readied, message-suc, state-suc}
-
--- the state after the first i full blocks
-unfoldable pub taken : Width → ℕ → ℕ → Bool → State → List ℕ → ℕ → State
-taken w l m opening s d zero = s
-taken w l m opening s d (suc i) =
-    let e = entered w l m (taken w l m opening s d i) in
-    cond opening (xorBlock w e (xors (rateOf w e) (run (rate w) i d))) (xorBlock w e (run (rate w) i d))
-
--- the bytes that they give: the rate xored with each block
-unfoldable pub shown : Width → ℕ → ℕ → Bool → State → List ℕ → ℕ → List ℕ
-shown w l m opening s d zero = []
-shown w l m opening s d (suc i) = shown w l m opening s d i ++ rateOf w (xorBlock w (entered w l m (taken w l m opening s d i)) (run (rate w) i d))
 
 module _ (w : Width) (l m : ℕ) (opening : Bool) (s : State) (d : List ℕ) where
   pub length-shown : (i : ℕ) → length (shown w l m opening s d i) ≡ i * rate w

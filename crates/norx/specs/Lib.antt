@@ -1,3 +1,4 @@
 pub mod Norx
 pub mod Front
 pub mod Stream
+pub mod Turns

@@ -11,7 +11,8 @@ use lib.Dec.{eqb, lit≤}
 use lib.ListN.{length, take, drop, replicate, length-append, length-drop}
 use lib.Seq.{length-take-le, drop-at, drop-length}
 use Rattle.norx.specs.Norx.{Width, word32, word64, rowBytes, tagBits, State, rowOf, headerMark, bodyMark, trailerMark, start, afterPart, ciphertext, message, tagOf, beforeBody, tag, sealed, same, recovered, opened}
-use Rattle.norx.proofs.Slices.{put, put-next, copied, tail}
+use Rattle.norx.specs.Turns.{put}
+use Rattle.norx.proofs.Slices.{put-next, copied, tail}
 use Rattle.norx.proofs.Blocks.{length-ciphertext}
 use Rattle.norx.proofs.Opening.{length-tag}
 use Rattle.sealing.specs.Calls.{tagBytes}

@@ -7,7 +7,8 @@ use Prim.Native.Nat.{_/_}
 use native.Mathlib.Omega.{arith}
 use lib.ListN.{length}
 use Rattle.norx.specs.Norx.{word32}
-use Rattle.norx.proofs.Turns.{taken, taken-one}
+use Rattle.norx.specs.Turns.{taken}
+use Rattle.norx.proofs.Turns.{taken-one}
 use Rattle.sponge.proofs.w32.blocks.turn.Statement.{statement}
 use Rattle.sponge.proofs.w32.blocks.turn.Tie as tie
 

@@ -1,6 +1,6 @@
 -- `sponge::w64::blocks::turns`: before the turn i the state has taken in i blocks, and what they give is written where it is asked for.
 -- Assumes nothing.
-use mathlib.Core.Path.{_≡_, refl, ap, _∙_}
+use mathlib.Core.Path.{_≡_, refl, _∙_}
 use mathlib.Core.Bool.{Bool, cond}
 use mathlib.Core.List.{_++_}
 use Prim.Native.Nat.{_+_, _-_, _*_, _/_, _≤_}
@@ -9,10 +9,11 @@ use borrow.Author.Needs.{needs}
 use borrow.Author.Tests.{eqb-true}
 use lib.Dec.{eqb}
 use lib.ListN.{length, drop}
-use Rattle.norx.specs.Norx.{word64, rateOf, P, entered}
+use Rattle.norx.specs.Norx.{word64, rateOf}
 use Rattle.norx.proofs.Words.{length-rateOf}
 use Rattle.norx.proofs.Slices.{cut}
-use Rattle.norx.proofs.Turns.{taken, shown, shown-none, taken-next, shown-next, length-show}
+use Rattle.norx.specs.Turns.{taken, shown}
+use Rattle.norx.proofs.Turns.{shown-none, taken-next, shown-next, length-show}
 use Rattle.sponge.proofs.w64.blocks.turns.Statement.{statement}
 use Rattle.sponge.proofs.w64.blocks.turns.Tie as tie
 
