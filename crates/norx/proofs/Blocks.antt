@@ -74,12 +74,6 @@ module _ (w : Width) (l m : ℕ) (s : State) where
     unfolding afterBlocks
     after-suc i h = ap (xorBlock w (entered w l m (afterBlocks w l m s d i))) (sym (block-full (rate w) d i h))
 
-    -- one full block more
-    pub after-next : (i : ℕ) → suc i * rate w ≤ length d → {t e u : State} {b : List ℕ} → t ≡ afterBlocks w l m s d i → e ≡ entered w l m t
-        → b ≡ run (rate w) i d → u ≡ xorBlock w e b → u ≡ afterBlocks w l m s d (i + 1)
-    after-next i h ht he hb hu =
-        rw add-one (hu ∙ ap₂ (λ (x : State) (y : List ℕ). xorBlock w x y) (he ∙ ap (entered w l m) ht) hb ∙ after-suc i h)
-
     pub part-none : length d ≡ 0 → s ≡ afterPart w l m s d
     unfolding afterPart afterBlocks blockCount
     part-none h = ap (λ (n : ℕ). afterBlocks w l m s d (blockCount (rate w) n)) (sym h)
@@ -157,18 +151,6 @@ module _ (w : Width) (l : ℕ) (s : State) (d : List ℕ) where
   -- an empty body has an empty ciphertext
   pub text-none : length d ≡ 0 → (o : List ℕ) → length o ≡ length d → o ≡ ciphertext w l s d
   text-none h o e = empty o (e ∙ h) ∙ sym (empty (ciphertext w l s d) (length-ciphertext ∙ h))
-
-  -- one full block more, written at its place
-  pub text-next : (i : ℕ) → suc i * rate w ≤ length d → (o : List ℕ) {out y : List ℕ} {u : State} {n : ℕ} → out ≡ cipherBlocks w l s d i ++ drop (i * rate w) o
-      → u ≡ afterBlocks w l bodyMark s d (i + 1) → y ≡ rateOf w u → n ≡ rate w
-      → put out (i * rate w) y n ≡ cipherBlocks w l s d (i + 1) ++ drop ((i + 1) * rate w) o
-  text-next i h o ho hu hy hn =
-      let le : i * rate w + rate w ≤ length d = rw (suc-mul i (rate w)) at h in
-      let z : List ℕ = rateOf w (afterBlocks w l bodyMark s d (suc i)) in
-      (λ k. put (ho k) (i * rate w) ((hy ∙ ap (rateOf w) (hu ∙ ap (afterBlocks w l bodyMark s d) (add-one i))) k) (hn k))
-      ∙ put-next (cipherBlocks w l s d i) (drop (i * rate w) o) z (i * rate w) (rate w) (length-cipherBlocks i (omega arith))
-      ∙ ap₂ (λ (x y : List ℕ). x ++ y) (cipher-suc i h) (drop-drop (rate w) (i * rate w) o ∙ ap (λ (k : ℕ). drop k o) (sym (suc-mul i (rate w))))
-      ∙ ap (λ (k : ℕ). cipherBlocks w l s d k ++ drop (k * rate w) o) (sym (add-one i))
 
   -- the bytes left, written behind the full blocks
   pub text-last : (o : List ℕ) {out y : List ℕ} {u : State} → out ≡ cipherBlocks w l s d (fulls w d) ++ drop (fulls w d * rate w) o

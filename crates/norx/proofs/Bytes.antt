@@ -7,8 +7,7 @@ use native.Mathlib.Nat.{mod-lt, zero-lt-suc}
 use native.Mathlib.Omega.{arith}
 use lib.Bits.{bitXor, xor-lt}
 use lib.ListN.{length, getD, take, drop, set, replicate, length-replicate}
-use Rattle.norx.specs.Norx.{Width, run, xors, bytesOf, bytesOfRow, rateOf, rowAt, wordAt, wordBytes, xorAt, padded}
-use Rattle.norx.proofs.Xor.{getD-xors}
+use Rattle.norx.specs.Norx.{Width, run, bytesOf, bytesOfRow, rateOf, rowAt, wordAt, wordBytes, xorAt, padded}
 
 -- each element is a byte
 abbrev pub Bytes : List ℕ → Type 0
@@ -51,9 +50,6 @@ bytes-append (x ∷ a) b ha hb = bytes-cons x (a ++ b) (ha 0) (bytes-append a b 
 
 pub bytes-zeros : (n : ℕ) → Bytes (zeros n)
 bytes-zeros n i = omega (arith, zeros-at n i)
-
-pub bytes-xors : (a b : List ℕ) → Bytes a → Bytes b → Bytes (xors a b)
-bytes-xors a b ha hb i = rw (getD-xors a b i) (xor-lt 8 (getD a i 0) (getD b i 0) (ha i) (hb i))
 
 pub bytes-set : (l : List ℕ) (i x : ℕ) → Bytes l → x < 256 → Bytes (set l i x)
 bytes-set [] i x h p = h

@@ -58,27 +58,6 @@ module _ (w : Width) (l : ℕ) (s : State) (c : List ℕ) where
       ∙ after-suc w l bodyMark s (a ++ x) i whole
       ∙ ap (λ (m : List ℕ). afterBlocks w l bodyMark s m (suc i)) (message-suc i h)
 
-  -- one full block more: the state, and the message written at its place
-  module _ (i : ℕ) (h : suc i * rate w ≤ length c) {t e : State} {b : List ℕ}
-      (ht : t ≡ afterBlocks w l bodyMark s (messageBlocks w l s c i) i) (he : e ≡ entered w l bodyMark t) (hb : b ≡ run (rate w) i c) where
-    ready : e ≡ readied i
-    ready = he ∙ ap (entered w l bodyMark) ht
-
-    pub state-next : {u : State} → u ≡ xorBlock w e (xors (rateOf w e) b) → u ≡ afterBlocks w l bodyMark s (messageBlocks w l s c (i + 1)) (i + 1)
-    state-next hu =
-        rw add-one (hu ∙ ap₂ (λ (x : State) (y : List ℕ). xorBlock w x (xors (rateOf w x) y)) ready hb ∙ state-suc i h)
-
-    pub message-next : (o : List ℕ) {out y : List ℕ} {n : ℕ} → out ≡ messageBlocks w l s c i ++ drop (i * rate w) o → y ≡ xors (rateOf w e) b → n ≡ rate w
-        → put out (i * rate w) y n ≡ messageBlocks w l s c (i + 1) ++ drop ((i + 1) * rate w) o
-    message-next o ho hy hn =
-        let le : i * rate w + rate w ≤ length c = rw (suc-mul i (rate w)) at h in
-        let x : List ℕ = xors (rateOf w (readied i)) (run (rate w) i c) in
-        let is : xors (rateOf w e) b ≡ x = ap₂ (λ (x : State) (y : List ℕ). xors (rateOf w x) y) ready hb in
-        (λ k. put (ho k) (i * rate w) ((hy ∙ is) k) (hn k))
-        ∙ put-next (messageBlocks w l s c i) (drop (i * rate w) o) x (i * rate w) (rate w) (length-messageBlocks i (omega arith))
-        ∙ ap₂ (λ (x y : List ℕ). x ++ y) (message-suc i h) (drop-drop (rate w) (i * rate w) o ∙ ap (λ (k : ℕ). drop k o) (sym (suc-mul i (rate w))))
-        ∙ ap (λ (k : ℕ). messageBlocks w l s c k ++ drop (k * rate w) o) (sym (add-one i))
-
   -- ---- the bytes left
 
   abbrev pub lastBytes : List ℕ

@@ -56,20 +56,6 @@ unfolding xors
 xors-nil [] = refl
 xors-nil (x ∷ a) = refl
 
-pub xors-assoc : (a b c : List ℕ) → xors (xors a b) c ≡ xors a (xors b c)
-unfolding xors
-xors-assoc [] b c = refl
-xors-assoc (x ∷ a) [] c = refl
-xors-assoc (x ∷ a) (y ∷ b) [] = refl
-xors-assoc (x ∷ a) (y ∷ b) (z ∷ c) = λ k. xor-assoc x y z k ∷ xors-assoc a b c k
-
--- what is xored in twice is gone, of lists of one length
-pub xors-twice : (a b : List ℕ) → length a ≡ length b → xors a (xors a b) ≡ b
-unfolding xors
-xors-twice [] b h = refl
-xors-twice (x ∷ a) [] h = let z : ⊥ = omega arith in absurd z
-xors-twice (x ∷ a) (y ∷ b) h = λ k. twice-xor x y k ∷ xors-twice a b (suc-inj h) k
-
 pub length-xors : (a b : List ℕ) → length a ≡ length b → length (xors a b) ≡ length b
 unfolding xors
 length-xors [] b h = refl
