@@ -42,8 +42,8 @@ fn less(a: usize, b: usize) -> usize
     if a < b { 0 } else { a - b }
 }
 
-// 2, 1, 4, 5, else 0.
-pub(crate) fn seal_checks(
+// What the numbers of a sealing are answered: 2, 1, 4, 5, else 0. row is the length of a key and of a nonce, tag that of a tag.
+pub fn seal_checks(
     row: usize,
     tag: usize,
     rounds: u32,
@@ -71,8 +71,8 @@ pub(crate) fn seal_checks(
     )
 }
 
-// 2, 1, 3, 4, 5, else 0.
-pub(crate) fn open_checks(
+// What the numbers of an opening are answered before its tag is looked at: 2, 1, 3, 4, 5, else 0.
+pub fn open_checks(
     row: usize,
     tag: usize,
     rounds: u32,

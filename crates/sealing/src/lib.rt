@@ -1,4 +1,4 @@
 // Sealing and opening in one call, at each width under the same names.
-mod checks;
+pub mod checks;
 pub mod w32;
 pub mod w64;
