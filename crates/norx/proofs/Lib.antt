@@ -23,3 +23,4 @@ pub mod Rotate
 pub mod Steps
 pub mod Constants
 pub mod Table
+pub mod Shape

@@ -7,13 +7,15 @@ ghost use Rattle.sealing.specs.Calls.{roundsOk, within as withinOf, seal
 use answers::Answer;
 use answers::need;
 
-fn rounds_ok(rounds: u32) -> bool
+// Rounds are 4 or 6.
+pub fn rounds_ok(rounds: u32) -> bool
     ensures { λ r. ⌜ r ≡ roundsOk rounds ⌝ }
 {
     (rounds == 4) | (rounds == 6)
 }
 
-fn lengths_ok(row: usize, key: usize, nonce: usize) -> bool
+// A key and a nonce have the length of a row.
+pub fn lengths_ok(row: usize, key: usize, nonce: usize) -> bool
     ensures { λ r. ⌜ r ≡ (eqb key row && eqb nonce row) ⌝ }
 {
     (key == row) & (nonce == row)

@@ -8,14 +8,14 @@ use super::checks::open_checks;
 use super::checks::seal_checks;
 use answers::Answer;
 use answers::done;
-use sponge::texts::clear;
-use sponge::texts::same;
 use sponge::w32::ends::row;
 use sponge::w32::ends::start;
 use sponge::w32::ends::tag;
 use sponge::w32::parts::absorb;
 use sponge::w32::parts::decrypt;
 use sponge::w32::parts::encrypt;
+use texts::clear;
+use texts::same;
 
 const HEADER: u32 = 0x01;
 

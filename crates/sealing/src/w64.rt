@@ -8,14 +8,14 @@ use super::checks::open_checks;
 use super::checks::seal_checks;
 use answers::Answer;
 use answers::done;
-use sponge::texts::clear;
-use sponge::texts::same;
 use sponge::w64::ends::row;
 use sponge::w64::ends::start;
 use sponge::w64::ends::tag;
 use sponge::w64::parts::absorb;
 use sponge::w64::parts::decrypt;
 use sponge::w64::parts::encrypt;
+use texts::clear;
+use texts::same;
 
 const HEADER: u64 = 0x01;
 

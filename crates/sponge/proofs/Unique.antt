@@ -66,12 +66,6 @@ use Rattle.sponge.proofs.w64.pieces.seal.Reads.{Post as Post-w64-pieces
 use Rattle.sponge.proofs.w64.pieces.check.{signature as signature-w64-pieces-check}
 use Rattle.sponge.proofs.w64.pieces.check.Kinds as kinds-w64-pieces-check
 use Rattle.sponge.proofs.w64.pieces.check.Reads.{Post as Post-w64-pieces-check}
-use Rattle.sponge.proofs.texts.same.{signature as signature-texts-same}
-use Rattle.sponge.proofs.texts.same.Kinds as kinds-texts-same
-use Rattle.sponge.proofs.texts.same.Reads.{Post as Post-texts-same}
-use Rattle.sponge.proofs.texts.clear.{signature as signature-texts-clear}
-use Rattle.sponge.proofs.texts.clear.Kinds as kinds-texts-clear
-use Rattle.sponge.proofs.texts.clear.Reads.{Post as Post-texts-clear}
 
 pub one-row-32 : (κs : Lfts 1) (a : ArgsD signature-w32-ends-row κs) (r r′ : ResD signature-w32-ends-row κs) (s s′ : AtExit (endedOf 1 kinds-w32-ends-row.ps kinds-w32-ends-row.r) κs)
     → Post-w32-ends-row κs a r s → Post-w32-ends-row κs a r′ s′ → r ≡ r′
@@ -152,11 +146,3 @@ one-seal-64 κs a r r′ s s′ p q = (p .0 ∙ sym (q .0), p .1 ∙ sym (q .1))
 pub one-check-64 : (κs : Lfts 1) (a : ArgsD signature-w64-pieces-check κs) (r r′ : ResD signature-w64-pieces-check κs) (s s′ : AtExit (endedOf 1 kinds-w64-pieces-check.ps kinds-w64-pieces-check.r) κs)
     → Post-w64-pieces-check κs a r s → Post-w64-pieces-check κs a r′ s′ → r ≡ r′
 one-check-64 κs a r r′ s s′ p q = p ∙ sym q
-
-pub one-same : (κs : Lfts 2) (a : ArgsD signature-texts-same κs) (r r′ : ResD signature-texts-same κs) (s s′ : AtExit (endedOf 2 kinds-texts-same.ps kinds-texts-same.r) κs)
-    → Post-texts-same κs a r s → Post-texts-same κs a r′ s′ → r ≡ r′
-one-same κs a r r′ s s′ p q = p ∙ sym q
-
-pub one-clear : (κs : Lfts 1) (a : ArgsD signature-texts-clear κs) (r r′ : ResD signature-texts-clear κs) (s s′ : AtExit (endedOf 1 kinds-texts-clear.ps kinds-texts-clear.r) κs)
-    → Post-texts-clear κs a r s → Post-texts-clear κs a r′ s′ → now (s .0) ≡ now (s′ .0)
-one-clear κs a r r′ s s′ p q = p ∙ sym q

@@ -4,7 +4,7 @@ use crate::text::print_answer;
 use crate::text::print_bytes;
 use crate::text::print_same;
 use libc::STDOUT_FILENO;
-use sponge::texts::same;
+use texts::same;
 
 pub(crate) fn print_all() {
     io::write_all(STDOUT_FILENO, b"NORX32-4-1\n");

@@ -1,0 +1,55 @@
+-- Every state that NORX makes has four rows of four words.
+-- Assumes nothing.
+use mathlib.Core.Bool.{Bool, true, false, cond}
+use mathlib.Core.List.{List, [], _∷_}
+use Prim.Native.Nat.{ℕ, zero, suc, _%_}
+use lib.Dec.{eqb}
+use Rattle.norx.specs.Norx.{Width, rate, State, row, rows, rowOf, xorRow, F, P, onDiagonals, constants, keyed, start, xorBlock, marked, entered}
+use Rattle.norx.specs.Stream.{begun, fed, ended}
+
+pub data Shaped : State → Type 0 where
+  shaped : {a b c d e f g h i j k m n o p q : ℕ} → Shaped (rows (row a b c d) (row e f g h) (row i j k m) (row n o p q))
+
+pub shaped-P : (w : Width) (l : ℕ) (s : State) → Shaped s → Shaped (P w l s)
+unfolding P F onDiagonals
+shaped-P w zero s h = h
+shaped-P w (suc l) s h = shaped
+
+shaped-marked : (m : ℕ) (s : State) → Shaped s → Shaped (marked m s)
+unfolding marked
+shaped-marked m s shaped = shaped
+
+shaped-keyed : (k : List ℕ) (s : State) → Shaped s → Shaped (keyed k s)
+unfolding keyed xorRow
+shaped-keyed k s shaped = shaped
+
+shaped-xorBlock : (w : Width) (s : State) (b : List ℕ) → Shaped s → Shaped (xorBlock w s b)
+unfolding xorBlock xorRow
+shaped-xorBlock w s b shaped = shaped
+
+pub shaped-start : (w : Width) (l t : ℕ) (key nonce : List ℕ) → Shaped (start w l t (rowOf w key) (rowOf w nonce))
+unfolding start constants P F onDiagonals xorRow
+shaped-start w l t key nonce = shaped-keyed (rowOf w key) _ (shaped-P w l _ shaped)
+
+module _ (w : Width) (l m : ℕ) where
+  shaped-entered : (s : State) → Shaped s → Shaped (entered w l m s)
+  unfolding entered
+  shaped-entered s h = shaped-P w l (marked m s) (shaped-marked m s h)
+
+  shaped-cond : (b : Bool) (s : State) → Shaped s → Shaped (cond b (entered w l m s) s)
+  shaped-cond true s h = shaped-entered s h
+  shaped-cond false s h = h
+
+  shaped-begun : (s : State) (i : ℕ) → Shaped s → Shaped (begun w l m s i)
+  unfolding begun
+  shaped-begun s i h = shaped-cond (eqb (i % rate w) 0) s h
+
+  pub shaped-fed : (d : List ℕ) (s : State) (i : ℕ) → Shaped s → Shaped (fed w l m s i d)
+  unfolding fed
+  shaped-fed [] s i h = h
+  shaped-fed (b ∷ d) s i h = shaped-fed d _ (suc i) (shaped-xorBlock w (begun w l m s i) _ (shaped-begun s i h))
+
+  pub shaped-ended : (s : State) (n : ℕ) → Shaped s → Shaped (ended w l m s n)
+  unfolding ended
+  shaped-ended s zero h = h
+  shaped-ended s (suc n) h = shaped-xorBlock w (begun w l m s (suc n)) _ (shaped-begun s (suc n) h)

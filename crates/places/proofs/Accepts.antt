@@ -1,0 +1,115 @@
+-- What is known where a start, a piece or a close is answered 0.
+-- Assumes nothing.
+use mathlib.Core.Path.{_≡_, refl}
+use mathlib.Core.Bool.{Bool, true, false, _&&_, false≢true}
+use Prim.Native.Nat.{ℕ, _+_, _≤_}
+use borrow.Author.Tests.{leb-true, eqb-true, eq-eqb}
+use lib.Dec.{leb, eqb}
+use Rattle.answers.specs.declared.Answer.the-variants.{Done}
+use Rattle.answers.specs.Answers.{doneOf, needOf}
+use Rattle.answers.proofs.Chain.{passed, both}
+use Rattle.sealing.specs.Calls.{roundsOk}
+use Rattle.places.specs.declared.Part.{Part}
+use Rattle.places.specs.declared.Part.the-variants.{Note, Body, Trailer}
+use Rattle.places.specs.declared.Standing.{Standing}
+use Rattle.places.specs.declared.Standing.the-variants.{Closed, Open}
+use Rattle.places.specs.declared.Place.{Place}
+use Rattle.places.specs.Places.{rankOf, presentOf, limitOf, countOf, moved, withinOf, unreachedOf, soundAt, soundOf, startAnswer, pieceAnswer, closeAnswer, Accepted}
+
+within-at : (s : Standing) (p : Place) → soundAt s p ≡ true → withinOf p ≡ true
+within-at Closed p e = absurd (false≢true e)
+within-at (Open part) p e = both (roundsOk (p .rounds)) (withinOf p) (both (roundsOk (p .rounds) && withinOf p) (unreachedOf p part) e .0) .1
+
+pub sound-within : (p : Place) → soundOf p ≡ true → withinOf p ≡ true
+unfolding soundOf
+sound-within p e = within-at (p .standing) p e
+
+pub sound-noted : (p : Place) → soundOf p ≡ true → p .note ≤ limitOf Note
+sound-noted p e =
+    leb-true (p .note) 65528
+    (both (leb (p .note) 65528) (leb (p .body) 16777216) (both (leb (p .note) 65528 && leb (p .body) 16777216) (leb (p .trailer) 65536) (sound-within p e) .0) .0)
+
+pub startable : (row l key nonce : ℕ) → doneOf (startAnswer row l key nonce) ≡ true → (roundsOk l ≡ true) × (key ≡ row) × (nonce ≡ row)
+unfolding startAnswer
+startable row l key nonce h =
+    let rounds = passed _ _ _ refl h in
+    let lengths = both (eqb key row) (eqb nonce row) (passed _ _ _ refl (rounds .1) .0) in
+    (rounds .0, eqb-true key row (lengths .0), eqb-true nonce row (lengths .1))
+
+pub accepted : (p : Place) (revision : ℕ) (part : Part) (offset n : ℕ) (exact : Bool) → doneOf (pieceAnswer p revision part offset n exact) ≡ true → Accepted p part n exact
+unfolding pieceAnswer
+accepted p revision part offset n exact h =
+    let sound = passed _ _ _ refl h in
+    let same = passed _ _ _ refl (sound .1) in
+    let onward = passed _ _ _ refl (same .1) in
+    let place = passed _ _ _ refl (onward .1) in
+    let room = passed _ _ _ refl (place .1) in
+    record {
+      sound = sound .0;
+      onward = onward .0;
+      noted = sound-noted p (sound .0);
+      room = leb-true _ _ (room .0);
+      fits = passed _ _ _ refl (room .1) .0;
+    }
+
+pub closable : (p : Place) (revision tagBytes tag : ℕ) → doneOf (closeAnswer p revision tagBytes tag) ≡ true → (p .note ≤ limitOf Note) × (tag ≡ tagBytes)
+unfolding closeAnswer
+closable p revision tagBytes tag h =
+    let sound = passed _ _ _ refl h in
+    let same = passed _ _ _ refl (sound .1) in
+    let within = passed _ _ _ refl (same .1) in
+    (sound-noted p (sound .0), eqb-true tag tagBytes (passed _ _ _ refl (within .1) .0))
+
+-- ---- a place stays sound
+
+and-true : (a b : Bool) → a ≡ true → b ≡ true → (a && b) ≡ true
+and-true true b e f = f
+and-true false b e f = absurd (false≢true e)
+
+module _ (p : Place) (n : ℕ) where
+  within-moved : (k : Part) → withinOf p ≡ true → leb (countOf p k + n) (limitOf k) ≡ true → withinOf (moved p k n) ≡ true
+  within-moved k e room =
+      let first = both (leb (p .note) 65528 && leb (p .body) 16777216) (leb (p .trailer) 65536) e in
+      let second = both (leb (p .note) 65528) (leb (p .body) 16777216) (first .0) in
+      go k room (second .0) (second .1) (first .1)
+    where
+      go : (k : Part) → leb (countOf p k + n) (limitOf k) ≡ true → leb (p .note) 65528 ≡ true → leb (p .body) 16777216 ≡ true → leb (p .trailer) 65536 ≡ true
+          → withinOf (moved p k n) ≡ true
+      go Note room a b c = and-true _ _ (and-true _ _ room b) c
+      go Body room a b c = and-true _ _ (and-true _ _ a room) c
+      go Trailer room a b c = and-true _ _ (and-true _ _ a b) room
+
+  unreached-moved : (part k : Part) → unreachedOf p part ≡ true → leb (rankOf part) (rankOf k) ≡ true → unreachedOf (moved p k n) k ≡ true
+  unreached-moved Note Note e o = e
+  unreached-moved Note Body e o = both (eqb (p .body) 0) (eqb (p .trailer) 0) e .1
+  unreached-moved part Trailer e o = refl
+  unreached-moved Body Note e o = absurd (false≢true o)
+  unreached-moved Body Body e o = e
+  unreached-moved Trailer Note e o = absurd (false≢true o)
+  unreached-moved Trailer Body e o = absurd (false≢true o)
+
+  sound-at : (s : Standing) (k : Part) → soundAt s p ≡ true → leb (presentOf s) (rankOf k) ≡ true → leb (countOf p k + n) (limitOf k) ≡ true
+      → soundAt (Open k) (moved p k n) ≡ true
+  sound-at Closed k e o room = absurd (false≢true e)
+  sound-at (Open part) k e o room =
+      let first = both (roundsOk (p .rounds) && withinOf p) (unreachedOf p part) e in
+      let second = both (roundsOk (p .rounds)) (withinOf p) (first .0) in
+      go k (second .0) (within-moved k (second .1) room) (unreached-moved part k (first .1) o)
+    where
+      go : (k : Part) → roundsOk (p .rounds) ≡ true → withinOf (moved p k n) ≡ true → unreachedOf (moved p k n) k ≡ true → soundAt (Open k) (moved p k n) ≡ true
+      go Note a b c = and-true _ _ (and-true _ _ a b) c
+      go Body a b c = and-true _ _ (and-true _ _ a b) c
+      go Trailer a b c = and-true _ _ (and-true _ _ a b) c
+
+  pub moved-sound : (k : Part) → soundOf p ≡ true → leb (presentOf (p .standing)) (rankOf k) ≡ true → leb (countOf p k + n) (limitOf k) ≡ true → soundAt (Open k) (moved p k n) ≡ true
+  unfolding soundOf
+  moved-sound k e o room = sound-at (p .standing) k e o room
+
+-- a sound place is closed under its own revision with a tag of the right length
+pub sound-closes : (p : Place) (tagBytes tag : ℕ) → soundOf p ≡ true → tag ≡ tagBytes → closeAnswer p (p .revision) tagBytes tag ≡ Done
+unfolding closeAnswer needOf
+sound-closes p tagBytes tag e f =
+    let within : withinOf p ≡ true = sound-within p e in
+    let same : eqb (p .revision) (p .revision) ≡ true = eq-eqb (p .revision) (p .revision) refl in
+    let long : eqb tag tagBytes ≡ true = eq-eqb tag tagBytes f in
+    rw (e, same, within, long)

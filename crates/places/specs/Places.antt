@@ -1,0 +1,121 @@
+-- Where a session of any kind and width stands, and what is answered by its numbers.
+-- Assumes nothing.
+use Prim.Native.Nat.{ℕ, _+_, _≤_}
+use mathlib.Core.Path.{_≡_}
+use mathlib.Core.Bool.{Bool, true, false, _&&_}
+use lib.Dec.{leb, eqb}
+use Rattle.norx.specs.Norx.{headerMark, bodyMark, trailerMark}
+use Rattle.norx.specs.Front.{frontBytes}
+use Rattle.answers.specs.declared.Answer.{Answer}
+use Rattle.answers.specs.declared.Answer.the-variants.{Done, KeyLength, RoundsNumber, TagLength, OverLimit, OutputLength, OtherRevision, EarlierPart, OtherOffset, NotSound}
+use Rattle.answers.specs.Answers.{needOf}
+use Rattle.sealing.specs.Calls.{roundsOk}
+use Rattle.places.specs.declared.Part.{Part}
+use Rattle.places.specs.declared.Part.the-variants.{Note, Body, Trailer}
+use Rattle.places.specs.declared.Standing.{Standing}
+use Rattle.places.specs.declared.Standing.the-variants.{Closed, Open}
+use Rattle.places.specs.declared.Place.{Place}
+
+-- ---- Parts
+
+-- the order of the parts
+abbrev pub rankOf : Part → ℕ
+rankOf Note = 0
+rankOf Body = 1
+rankOf Trailer = 2
+
+abbrev pub limitOf : Part → ℕ
+limitOf Note = 65528
+limitOf Body = 16777216
+limitOf Trailer = 65536
+
+abbrev pub markOf : Part → ℕ
+markOf Note = headerMark
+markOf Body = bodyMark
+markOf Trailer = trailerMark
+
+-- ---- Places
+
+-- the rank of the part that a session is open in; of a closed one, behind them all
+abbrev pub presentOf : Standing → ℕ
+presentOf Closed = 3
+presentOf (Open part) = rankOf part
+
+-- the bytes of a part accepted so far
+abbrev pub countOf : Place → Part → ℕ
+countOf p Note = p .note
+countOf p Body = p .body
+countOf p Trailer = p .trailer
+
+-- the bytes that the state took in of a part: the front stands before the note
+abbrev pub fedOf : Place → Part → ℕ
+fedOf p Note = frontBytes + p .note
+fedOf p Body = p .body
+fedOf p Trailer = p .trailer
+
+abbrev pub freshPlace : ℕ → ℕ → Place
+freshPlace l r = record { standing = Open Note; note = 0; body = 0; trailer = 0; rounds = l; revision = r }
+
+abbrev pub closedPlace : Place
+closedPlace = record { standing = Closed; note = 0; body = 0; trailer = 0; rounds = 0; revision = 0 }
+
+-- the place once a piece of n bytes is accepted
+abbrev pub moved : Place → Part → ℕ → Place
+moved p Note n = record { standing = Open Note; note = p .note + n; body = p .body; trailer = p .trailer; rounds = p .rounds; revision = p .revision }
+moved p Body n = record { standing = Open Body; note = p .note; body = p .body + n; trailer = p .trailer; rounds = p .rounds; revision = p .revision }
+moved p Trailer n = record { standing = Open Trailer; note = p .note; body = p .body; trailer = p .trailer + n; rounds = p .rounds; revision = p .revision }
+
+-- ---- Sound: open, rounds 4 or 6, no count over its limit, counts of parts not yet reached 0
+
+abbrev pub withinOf : Place → Bool
+withinOf p = leb (p .note) (limitOf Note) && leb (p .body) (limitOf Body) && leb (p .trailer) (limitOf Trailer)
+
+abbrev pub unreachedOf : Place → Part → Bool
+unreachedOf p Note = eqb (p .body) 0 && eqb (p .trailer) 0
+unreachedOf p Body = eqb (p .trailer) 0
+unreachedOf p Trailer = true
+
+abbrev pub soundAt : Standing → Place → Bool
+soundAt Closed p = false
+soundAt (Open part) p = roundsOk (p .rounds) && withinOf p && unreachedOf p part
+
+unfoldable pub soundOf : Place → Bool
+soundOf p = soundAt (p .standing) p
+
+-- ---- The orders of refusals
+
+-- start: 2, 1; `row` is the length of a key and of a nonce
+unfoldable pub startAnswer : ℕ → ℕ → ℕ → ℕ → Answer
+startAnswer row l key nonce = needOf (roundsOk l) RoundsNumber (needOf (eqb key row && eqb nonce row) KeyLength Done)
+
+-- piece: 9, 6, 7, 8, 4, 5; `exact` says that the output has the exact length
+unfoldable pub pieceAnswer : Place → ℕ → Part → ℕ → ℕ → Bool → Answer
+pieceAnswer p revision part offset n exact =
+    needOf (soundOf p) NotSound
+    (needOf (eqb revision (p .revision)) OtherRevision
+    (needOf (leb (presentOf (p .standing)) (rankOf part)) EarlierPart
+    (needOf (eqb offset (countOf p part)) OtherOffset
+    (needOf (leb (countOf p part + n) (limitOf part)) OverLimit
+    (needOf exact OutputLength Done)))))
+
+-- whether the output of a sealing session has the exact length for a piece of n bytes
+abbrev pub sealExact : Part → ℕ → ℕ → Bool
+sealExact Note n out = eqb out 0
+sealExact Body n out = eqb out n
+sealExact Trailer n out = eqb out 0
+
+-- close: 9, 6, 4, 3, before the tag is looked at
+unfoldable pub closeAnswer : Place → ℕ → ℕ → ℕ → Answer
+closeAnswer p revision tagBytes tag =
+    needOf (soundOf p) NotSound
+    (needOf (eqb revision (p .revision)) OtherRevision
+    (needOf (withinOf p) OverLimit
+    (needOf (eqb tag tagBytes) TagLength Done)))
+
+-- what is known of a piece that is accepted
+pub record Accepted (p : Place) (part : Part) (n : ℕ) (exact : Bool) : Type 0 where
+  pub sound : soundOf p ≡ true
+  pub onward : leb (presentOf (p .standing)) (rankOf part) ≡ true
+  pub noted : p .note ≤ limitOf Note
+  pub room : countOf p part + n ≤ limitOf part
+  pub fits : exact ≡ true

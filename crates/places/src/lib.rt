@@ -1,0 +1,228 @@
+// Where a session of any kind and width stands, and what is answered by its numbers.
+ghost use mathlib.Core.Path.{_≡_};
+ghost use Prim.Native.Nat.{_+_, _≤_};
+ghost use lib.Dec.{leb};
+ghost use mathlib.Core.Bool.{cond};
+ghost use Rattle.places.specs.Places.{rankOf, limitOf, presentOf, countOf, moved, withinOf, unreachedOf, soundOf, startAnswer, pieceAnswer, closeAnswer, sealExact};
+use answers::Answer;
+use answers::need;
+use sealing::checks::lengths_ok;
+use sealing::checks::rounds_ok;
+
+pub mod front;
+
+// The parts of a job, in their order.
+pub enum Part {
+    Note,
+    Body,
+    Trailer,
+}
+
+// Whether a session takes pieces, and which part they have come to.
+pub enum Standing {
+    Closed,
+    Open(Part),
+}
+
+// Where a session stands: all of it but its words and its key.
+pub struct Place {
+    pub standing: Standing,
+    pub note: usize,
+    pub body: usize,
+    pub trailer: usize,
+    pub rounds: u32,
+    pub revision: u64,
+}
+
+// The order of the parts.
+pub fn rank(part: Part) -> u32
+    ensures { λ r. ⌜ r ≡ rankOf part ⌝ }
+{
+    match part {
+        Part::Note => 0,
+        Part::Body => 1,
+        Part::Trailer => 2,
+    }
+}
+
+// The rank of the part that a session is open in; of a closed one, behind them all.
+pub fn present(standing: Standing) -> u32
+    ensures { λ r. ⌜ r ≡ presentOf standing ⌝ }
+{
+    match standing {
+        Standing::Closed => 3,
+        Standing::Open(part) => rank(part),
+    }
+}
+
+fn limit(part: Part) -> usize
+    ensures { λ r. ⌜ r ≡ limitOf part ⌝ }
+{
+    match part {
+        Part::Note => 65528,
+        Part::Body => 16777216,
+        Part::Trailer => 65536,
+    }
+}
+
+// The bytes of a part accepted so far.
+fn count(p: Place, part: Part) -> usize
+    ensures { λ r. ⌜ r ≡ countOf p part ⌝ }
+{
+    match part {
+        Part::Note => p.note,
+        Part::Body => p.body,
+        Part::Trailer => p.trailer,
+    }
+}
+
+fn within(p: Place) -> bool
+    ensures { λ r. ⌜ r ≡ withinOf p ⌝ }
+{
+    (p.note <= 65528) & (p.body <= 16777216) & (p.trailer <= 65536)
+}
+
+// Whether the parts behind one have no bytes.
+fn unreached(p: Place, part: Part) -> bool
+    ensures { λ r. ⌜ r ≡ unreachedOf p part ⌝ }
+{
+    match part {
+        Part::Note => (p.body == 0) & (p.trailer == 0),
+        Part::Body => p.trailer == 0,
+        Part::Trailer => true,
+    }
+}
+
+fn sound(p: Place) -> bool
+    ensures { λ r. ⌜ r ≡ soundOf p ⌝ }
+{
+    let standing = p.standing;
+    match standing {
+        Standing::Closed => false,
+        Standing::Open(part) => rounds_ok(p.rounds) & within(p) & unreached(p, part),
+    }
+}
+
+// Whether n bytes more stay within a limit, with no sum that could wrap.
+fn fits(had: usize, n: usize, most: usize) -> bool
+    ensures { λ r. ⌜ r ≡ leb (had + n) most ⌝ }
+{
+    if most < n {
+        return false;
+    }
+    had <= most - n
+}
+
+// Whether the output of a sealing session has the exact length for a piece of n bytes.
+pub fn exact(part: Part, n: usize, out: usize) -> bool
+    ensures { λ r. ⌜ r ≡ sealExact part n out ⌝ }
+{
+    match part {
+        Part::Note => out == 0,
+        Part::Body => out == n,
+        Part::Trailer => out == 0,
+    }
+}
+
+// The answer to a start: 2, 1, else 0. row is the length of a key and of a nonce.
+pub fn start_answer(row: usize, rounds: u32, key: usize, nonce: usize) -> Answer
+    ensures { λ r. ⌜ r ≡ startAnswer row rounds key nonce ⌝ }
+{
+    need(
+        rounds_ok(rounds),
+        Answer::RoundsNumber,
+        need(lengths_ok(row, key, nonce), Answer::KeyLength, Answer::Done),
+    )
+}
+
+// The answer to a piece of n bytes: 9, 6, 7, 8, 4, 5, else 0.
+pub fn piece_answer(
+    p: Place,
+    revision: u64,
+    part: Part,
+    offset: usize,
+    n: usize,
+    exact: bool,
+) -> Answer
+    ensures { λ r. ⌜ r ≡ pieceAnswer p revision part offset n exact ⌝ }
+{
+    let standing = p.standing;
+    let had = count(p, part);
+    need(
+        sound(p),
+        Answer::NotSound,
+        need(
+            revision == p.revision,
+            Answer::OtherRevision,
+            need(
+                present(standing) <= rank(part),
+                Answer::EarlierPart,
+                need(
+                    offset == had,
+                    Answer::OtherOffset,
+                    need(
+                        fits(had, n, limit(part)),
+                        Answer::OverLimit,
+                        need(exact, Answer::OutputLength, Answer::Done),
+                    ),
+                ),
+            ),
+        ),
+    )
+}
+
+// The answer to a close before the tag is looked at: 9, 6, 4, 3, else 0. wanted is the length of a tag.
+pub fn close_answer(p: Place, revision: u64, wanted: usize, tag: usize) -> Answer
+    ensures { λ r. ⌜ r ≡ closeAnswer p revision wanted tag ⌝ }
+{
+    need(
+        sound(p),
+        Answer::NotSound,
+        need(
+            revision == p.revision,
+            Answer::OtherRevision,
+            need(
+                within(p),
+                Answer::OverLimit,
+                need(tag == wanted, Answer::TagLength, Answer::Done),
+            ),
+        ),
+    )
+}
+
+// The place once a piece of n bytes is taken; as it was where they would pass the limit.
+pub fn after(p: Place, part: Part, n: usize) -> Place
+    ensures { λ r. ⌜ r ≡ cond (leb (countOf p part + n) (limitOf part)) (moved p part n) p ⌝ }
+{
+    if fits(count(p, part), n, limit(part)) {
+        taken(p, part, n)
+    } else {
+        p
+    }
+}
+
+fn taken(p: Place, part: Part, n: usize) -> Place
+    requires { ⌜ countOf p part + n ≤ limitOf part ⌝ }
+    ensures { λ r. ⌜ r ≡ moved p part n ⌝ }
+{
+    let mut next = Place {
+        standing: Standing::Open(part),
+        note: p.note,
+        body: p.body,
+        trailer: p.trailer,
+        rounds: p.rounds,
+        revision: p.revision,
+    };
+    match part {
+        Part::Note => {
+            next.note = p.note + n;
+        }
+        Part::Body => {
+            next.body = p.body + n;
+        }
+        Part::Trailer => {
+            next.trailer = p.trailer + n;
+        }
+    }
+    next
+}

@@ -1,0 +1,5 @@
+pub mod Parts
+pub mod Steps
+pub mod Joining
+pub mod Flat
+pub mod Held

@@ -1,0 +1,161 @@
+-- What each call on a session gives, on all inputs, over the session's kind.
+-- Assumes nothing.
+use Prim.Native.Nat.{ℕ, _+_, _/_}
+use mathlib.Core.Bool.{Bool, true, _&&_, cond}
+use mathlib.Core.List.{List, [], _∷_}
+use lib.ListN.{length, replicate}
+use lib.Dec.{ltb, leb}
+use Rattle.norx.specs.Norx.{Width, rowBytes, State, row, rows, wordAt, rowAt, rowOf, headerMark, bodyMark, trailerMark, start, tagOf, same}
+use Rattle.norx.specs.Front.{front}
+use Rattle.norx.specs.Stream.{fed, ended, fedText, unfed}
+use Rattle.answers.specs.declared.Answer.{Answer}
+use Rattle.answers.specs.declared.Answer.the-variants.{Done, TagDiffers}
+use Rattle.answers.specs.Answers.{doneOf, needOf}
+use Rattle.places.specs.declared.Part.{Part}
+use Rattle.places.specs.declared.Part.the-variants.{Note, Body, Trailer}
+use Rattle.places.specs.declared.Place.{Place}
+use Rattle.places.specs.Places.{rankOf, markOf, presentOf, fedOf, freshPlace, closedPlace, moved, startAnswer, pieceAnswer, sealExact, closeAnswer}
+
+-- a session seals messages, or checks ciphertext against a tag
+pub data Way : Type 0 where
+  sealing checking : Way
+
+-- sixteen words as four rows of four, and back
+abbrev pub rowsOf : List ℕ → State
+rowsOf s =
+    rows
+    (row (wordAt s 0) (wordAt s 1) (wordAt s 2) (wordAt s 3))
+    (row (wordAt s 4) (wordAt s 5) (wordAt s 6) (wordAt s 7))
+    (row (wordAt s 8) (wordAt s 9) (wordAt s 10) (wordAt s 11))
+    (row (wordAt s 12) (wordAt s 13) (wordAt s 14) (wordAt s 15))
+
+abbrev pub flatOf : State → List ℕ
+flatOf s =
+    wordAt (rowAt s 0) 0 ∷ wordAt (rowAt s 0) 1 ∷ wordAt (rowAt s 0) 2 ∷ wordAt (rowAt s 0) 3
+    ∷ wordAt (rowAt s 1) 0 ∷ wordAt (rowAt s 1) 1 ∷ wordAt (rowAt s 1) 2 ∷ wordAt (rowAt s 1) 3
+    ∷ wordAt (rowAt s 2) 0 ∷ wordAt (rowAt s 2) 1 ∷ wordAt (rowAt s 2) 2 ∷ wordAt (rowAt s 2) 3
+    ∷ wordAt (rowAt s 3) 0 ∷ wordAt (rowAt s 3) 1 ∷ wordAt (rowAt s 3) 2 ∷ wordAt (rowAt s 3) 3 ∷ []
+
+-- ---- What pieces and ends do to the state
+
+module _ (w : Width) (l : ℕ) where
+  -- the message that a piece brings, after n bytes of its part: the piece itself, or what it is the ciphertext of
+  abbrev pub brought : Part → Way → State → ℕ → List ℕ → List ℕ
+  brought Note way s n x = x
+  brought Body sealing s n x = x
+  brought Body checking s n x = unfed w l s n x
+  brought Trailer way s n x = x
+
+  -- a piece taken in with the mark of its part
+  unfoldable pub taken : Way → Part → State → ℕ → List ℕ → State
+  taken way part s n x = fed w l (markOf part) s n (brought part way s n x)
+
+  unfoldable pub endIf : ℕ → Bool → State → ℕ → State
+  endIf m ok s n = cond ok (ended w l m s n) s
+
+  -- the parts from the present one on are ended, up to the one of rank `next`
+  unfoldable pub readied : Place → ℕ → State → State
+  readied p next s =
+      endIf trailerMark (leb (presentOf (p .standing)) 2 && ltb 2 next)
+      (endIf bodyMark (leb (presentOf (p .standing)) 1 && ltb 1 next)
+      (endIf headerMark (leb (presentOf (p .standing)) 0 && ltb 0 next) s (fedOf p Note))
+      (fedOf p Body))
+      (fedOf p Trailer)
+
+  -- a piece at a place: the parts before it are ended, and it is taken in
+  unfoldable pub takenAt : Way → Place → Part → List ℕ → State → State
+  takenAt way p part x s = taken way part (readied p (rankOf part) s) (fedOf p part) x
+
+  -- what the output then holds: the ciphertext of a body piece that is sealed
+  abbrev pub writtenAt : Way → Place → Part → List ℕ → State → List ℕ → List ℕ
+  writtenAt sealing p Note x s out = out
+  writtenAt sealing p Body x s out = fedText w l (readied p (rankOf Body) s) (fedOf p Body) x
+  writtenAt sealing p Trailer x s out = out
+  writtenAt checking p part x s out = out
+
+-- whether an output has the exact length for a piece of n bytes; a checking session takes none
+abbrev pub exactOf : Way → Part → ℕ → ℕ → Bool
+exactOf sealing part n out = sealExact part n out
+exactOf checking part n out = true
+
+-- what the close answers by the tag that it is given: sealing writes its own, checking compares
+abbrev pub verdictOf : Way → List ℕ → List ℕ → Answer
+verdictOf sealing given own = Done
+verdictOf checking given own = needOf (same given own) TagDiffers Done
+
+-- ---- The calls
+
+-- a kind of session: its struct and its step's, put together and taken apart; which way it goes, its width and its tag bits
+pub record Kind : Type 1 where
+  pub Session : Type 0
+  pub Step : Type 0
+  pub place : Session → Place
+  pub words : Session → List ℕ
+  pub key : Session → List ℕ
+  pub make : Place → List ℕ → List ℕ → Session
+  pub step : Answer → Session → Step
+  pub answer : Step → Answer
+  pub next : Step → Session
+  pub way : Way
+  pub width : Width
+  pub tagBits : ℕ
+
+module _ (K : Kind) where
+  -- the one closed session, in which every number is zero
+  abbrev pub closedOf : K .Session
+  closedOf = K .make closedPlace (replicate 16 0) (replicate 4 0)
+
+  -- the state that a session holds
+  abbrev pub stateOf : K .Session → State
+  stateOf s = rowsOf (K .words s)
+
+  -- ---- start
+
+  unfoldable pub freshOf : List ℕ → List ℕ → ℕ → ℕ → K .Session
+  freshOf key nonce l r =
+      K .make (freshPlace l r) (flatOf (fed (K .width) l headerMark (start (K .width) l (K .tagBits) (rowOf (K .width) key) (rowOf (K .width) nonce)) 0 (front r)))
+      (rowOf (K .width) key)
+
+  unfoldable pub startOf : List ℕ → List ℕ → ℕ → ℕ → K .Step
+  startOf key nonce l r =
+      let a = startAnswer (rowBytes (K .width)) l (length key) (length nonce) in
+      K .step a (cond (doneOf a) (freshOf key nonce l r) closedOf)
+
+  -- ---- piece
+
+  unfoldable pub pieceAnswerOf : K .Session → ℕ → Part → ℕ → List ℕ → List ℕ → Answer
+  pieceAnswerOf s revision part offset x out =
+      pieceAnswer (K .place s) revision part offset (length x) (exactOf (K .way) part (length x) (length out))
+
+  unfoldable pub takenOf : K .Session → Part → List ℕ → K .Session
+  takenOf s part x =
+      K .make (moved (K .place s) part (length x)) (flatOf (takenAt (K .width) (K .place s .rounds) (K .way) (K .place s) part x (stateOf s))) (K .key s)
+
+  -- the answer and the next session: the piece taken in, or the session as it was
+  unfoldable pub pieceOf : K .Session → ℕ → Part → ℕ → List ℕ → List ℕ → K .Step
+  pieceOf s revision part offset x out =
+      let a = pieceAnswerOf s revision part offset x out in
+      K .step a (cond (doneOf a) (takenOf s part x) s)
+
+  unfoldable pub pieceOut : K .Session → ℕ → Part → ℕ → List ℕ → List ℕ → List ℕ
+  pieceOut s revision part offset x out =
+      cond (doneOf (pieceAnswerOf s revision part offset x out)) (writtenAt (K .width) (K .place s .rounds) (K .way) (K .place s) part x (stateOf s) out) out
+
+  -- ---- close
+
+  -- the tag of all that a session took in
+  unfoldable pub ownTag : K .Session → List ℕ
+  ownTag s = tagOf (K .width) (K .place s .rounds) (K .tagBits) (K .key s) (readied (K .width) (K .place s .rounds) (K .place s) 3 (stateOf s))
+
+  unfoldable pub closeAnswerOf : K .Session → ℕ → List ℕ → Answer
+  closeAnswerOf s revision tag = closeAnswer (K .place s) revision (K .tagBits / 8) (length tag)
+
+  -- the closed session with what the tag comes to, or the refusal with the session as it was
+  unfoldable pub closeOf : K .Session → ℕ → List ℕ → K .Step
+  closeOf s revision tag =
+      let a = closeAnswerOf s revision tag in
+      cond (doneOf a) (K .step (verdictOf (K .way) tag (ownTag s)) closedOf) (K .step a s)
+
+  -- what the tag buffer of a sealing session then holds
+  unfoldable pub closeTag : K .Session → ℕ → List ℕ → List ℕ
+  closeTag s revision tag = cond (doneOf (closeAnswerOf s revision tag)) (ownTag s) tag
