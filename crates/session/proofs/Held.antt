@@ -1,74 +1,27 @@
--- For any list of offered pieces: the session is the one that is held with the accepted pieces joined, and a refused piece changes nothing.
+-- For any list of offered pieces: the session is the one that is held with the accepted pieces joined.
 -- Assumes nothing.
 use mathlib.Core.Path.{_≡_, refl, sym, ap, ap₂, _∙_}
-use mathlib.Core.Bool.{Bool, true, false, cond}
-use mathlib.Core.Logic.{_⊎_, inl, inr, ⊎-elim}
+use mathlib.Core.Bool.{true, false}
+use mathlib.Core.Logic.{⊎-elim}
 use mathlib.Core.List.{List, [], _∷_, _++_, append-assoc, append-nil}
 use Prim.Native.Nat.{ℕ}
 use lib.ListN.{length}
 use Rattle.norx.specs.Norx.{State, rowOf, headerMark, start}
 use Rattle.norx.specs.Front.{front}
 use Rattle.norx.specs.Stream.{fed}
-use Rattle.answers.specs.declared.Answer.{Answer}
 use Rattle.answers.specs.Answers.{doneOf}
 use Rattle.places.specs.declared.Part.{Part}
 use Rattle.places.specs.declared.Part.the-variants.{Note, Body, Trailer}
 use Rattle.places.specs.declared.Place.{Place}
 use Rattle.places.specs.Places.{freshPlace, pieceAnswer, moved, Accepted}
 use Rattle.places.proofs.Accepts.{accepted as accepts}
-use Rattle.session.specs.Sessions.{rowsOf, flatOf, takenAt, exactOf, Kind, stateOf, freshOf, pieceAnswerOf, takenOf, pieceOf, pieceOut}
-use Rattle.session.specs.Offered.{Piece, callOf, isTaken, afterPiece, afterAll, accepted, wrote, only, joined, lastPart, placeIn, stateIn, held, heldBy}
+use Rattle.session.specs.Sessions.{rowsOf, flatOf, takenAt, exactOf, Kind, stateOf, freshOf, pieceAnswerOf, takenOf, pieceOf}
+use Rattle.session.specs.Offered.{Piece, isTaken, afterPiece, afterAll, accepted, only, joined, lastPart, placeIn, stateIn, held, heldBy}
+use Rattle.session.proofs.Refused.{Lawful, either, cond-true, cond-false, answerTo, taken-answer, refused-session}
 use Rattle.session.proofs.Flat.{rows-flat, shaped-state}
 use Rattle.session.proofs.Joining.{moved-place, moved-state}
 
--- a kind is lawful where what it puts together it takes apart again
-pub record Lawful (K : Kind) : Type 0 where
-  pub placed : (p : Place) (w k : List ℕ) → K .place (K .make p w k) ≡ p
-  pub worded : (p : Place) (w k : List ℕ) → K .words (K .make p w k) ≡ w
-  pub keyed : (p : Place) (w k : List ℕ) → K .key (K .make p w k) ≡ k
-  pub answered : (a : Answer) (s : K .Session) → K .answer (K .step a s) ≡ a
-  pub stepped : (a : Answer) (s : K .Session) → K .next (K .step a s) ≡ s
-
-pub either : (b : Bool) → (b ≡ true) ⊎ (b ≡ false)
-either true = inl refl
-either false = inr refl
-
-pub cond-true : {A : Type 0} (b : Bool) (x y : A) → b ≡ true → cond b x y ≡ x
-cond-true b x y h = ap (λ (c : Bool). cond c x y) h
-
-pub cond-false : {A : Type 0} (b : Bool) (x y : A) → b ≡ false → cond b x y ≡ y
-cond-false b x y h = ap (λ (c : Bool). cond c x y) h
-
 module _ (K : Kind) (L : Lawful K) where
-  abbrev pub answerTo : K .Session → Piece → Answer
-  answerTo s q = pieceAnswerOf K s (q .revision) (q .part) (q .offset) (q .bytes) (q .out)
-
-  pub taken-answer : (s : K .Session) (q : Piece) → isTaken K s q ≡ doneOf (answerTo s q)
-  unfolding pieceOf
-  taken-answer s q = ap doneOf (L .answered _ _)
-
-  -- ---- a refused piece changes nothing, of any session
-
-  pub refused-session : (s : K .Session) (q : Piece) → isTaken K s q ≡ false → afterPiece K s q ≡ s
-  unfolding pieceOf
-  refused-session s q h = L .stepped _ _ ∙ cond-false _ _ _ (sym (taken-answer s q) ∙ h)
-
-  pub refused-output : (s : K .Session) (q : Piece) → isTaken K s q ≡ false → pieceOut K s (q .revision) (q .part) (q .offset) (q .bytes) (q .out) ≡ q .out
-  unfolding pieceOut
-  refused-output s q h = cond-false _ _ _ (sym (taken-answer s q) ∙ h)
-
-  -- a list with refused pieces gives what the list without them gives
-  pub without-refused : (qs : List Piece) (s : K .Session) → afterAll K s qs ≡ afterAll K s (accepted K s qs)
-  without-refused [] s = refl
-  without-refused (q ∷ qs) s =
-      ⊎-elim
-      (λ (h : isTaken K s q ≡ true). without-refused qs (afterPiece K s q) ∙ sym (ap (afterAll K s) (cond-true (isTaken K s q) _ _ h)))
-      (λ (h : isTaken K s q ≡ false).
-      without-refused qs (afterPiece K s q)
-      ∙ ap (λ (u : K .Session). afterAll K u (accepted K (afterPiece K s q) qs)) (refused-session s q h)
-      ∙ sym (ap (afterAll K s) (cond-false (isTaken K s q) _ _ h)))
-      (either (isTaken K s q))
-
   module _ (key nonce : List ℕ) (l r : ℕ) where
     abbrev pub at : Part → List ℕ → List ℕ → List ℕ → K .Session
     at = held K key nonce l r
@@ -80,7 +33,7 @@ module _ (K : Kind) (L : Lawful K) where
     state-held part n b t = ap rowsOf (L .worded _ _ _) ∙ rows-flat _ (shaped-state K key nonce l r part n b t)
 
     pub answer-held : (part : Part) (n b t : List ℕ) (q : Piece)
-        → answerTo (at part n b t) q
+        → answerTo K L (at part n b t) q
         ≡ pieceAnswer (placeIn l r part n b t) (q .revision) (q .part) (q .offset) (length (q .bytes)) (exactOf (K .way) (q .part) (length (q .bytes)) (length (q .out)))
     unfolding pieceAnswerOf
     answer-held part n b t q =
@@ -90,7 +43,7 @@ module _ (K : Kind) (L : Lawful K) where
     pub accepted-held : (part : Part) (n b t : List ℕ) (q : Piece) → isTaken K (at part n b t) q ≡ true
         → Accepted (placeIn l r part n b t) (q .part) (length (q .bytes)) (exactOf (K .way) (q .part) (length (q .bytes)) (length (q .out)))
     accepted-held part n b t q h =
-        accepts _ (q .revision) (q .part) (q .offset) _ _ (sym (ap doneOf (answer-held part n b t q)) ∙ sym (taken-answer (at part n b t) q) ∙ h)
+        accepts _ (q .revision) (q .part) (q .offset) _ _ (sym (ap doneOf (answer-held part n b t q)) ∙ sym (taken-answer K L (at part n b t) q) ∙ h)
 
     -- ---- one accepted piece
 
@@ -114,7 +67,7 @@ module _ (K : Kind) (L : Lawful K) where
     pub one-taken : (part : Part) (n b t : List ℕ) (q : Piece) → isTaken K (at part n b t) q ≡ true → afterPiece K (at part n b t) q ≡ andPiece part n b t q
     unfolding pieceOf
     one-taken part n b t q h =
-        L .stepped _ _ ∙ cond-true _ _ _ (sym (taken-answer (at part n b t) q) ∙ h) ∙ taken-held part n b t q h
+        L .stepped _ _ ∙ cond-true _ _ _ (sym (taken-answer K L (at part n b t) q) ∙ h) ∙ taken-held part n b t q h
 
     -- ---- any list of pieces
 
@@ -129,27 +82,49 @@ module _ (K : Kind) (L : Lawful K) where
     and-one part n b t q qs =
         rw (append-assoc n (only Note (q .part) (q .bytes)) (joined Note qs), append-assoc b (only Body (q .part) (q .bytes)) (joined Body qs), append-assoc t (only Trailer (q .part) (q .bytes)) (joined Trailer qs))
 
+    -- the accepted pieces of a list, by whether its first is accepted
+    pub taken-list : (part : Part) (n b t : List ℕ) (q : Piece) (qs : List Piece) → isTaken K (at part n b t) q ≡ true
+        → q ∷ accepted K (andPiece part n b t q) qs ≡ accepted K (at part n b t) (q ∷ qs)
+    taken-list part n b t q qs h =
+        ap (λ (u : K .Session). q ∷ accepted K u qs) (sym (one-taken part n b t q h)) ∙ sym (cond-true (isTaken K (at part n b t) q) _ _ h)
+
+    pub refused-list : (part : Part) (n b t : List ℕ) (q : Piece) (qs : List Piece) → isTaken K (at part n b t) q ≡ false
+        → accepted K (at part n b t) qs ≡ accepted K (at part n b t) (q ∷ qs)
+    refused-list part n b t q qs h =
+        ap (λ (u : K .Session). accepted K u qs) (sym (refused-session K L (at part n b t) q h)) ∙ sym (cond-false (isTaken K (at part n b t) q) _ _ h)
+
     pub all-held : (qs : List Piece) (part : Part) (n b t : List ℕ) → afterAll K (at part n b t) qs ≡ andAll part n b t (accepted K (at part n b t) qs)
     all-held [] part n b t = and-none part n b t
     all-held (q ∷ qs) part n b t =
         let s : K .Session = at part n b t in
         ⊎-elim
-        (λ (h : isTaken K s q ≡ true).
-        let e : afterPiece K s q ≡ andPiece part n b t q = one-taken part n b t q h in
-        let list : q ∷ accepted K (andPiece part n b t q) qs ≡ accepted K s (q ∷ qs) =
-        ap (λ (u : K .Session). q ∷ accepted K u qs) (sym e) ∙ sym (cond-true (isTaken K s q) _ _ h) in
-        ap (λ (u : K .Session). afterAll K u qs) e
+        (λ (h : isTaken K s q ≡ true). ap (λ (u : K .Session). afterAll K u qs) (one-taken part n b t q h)
         ∙ all-held qs (q .part) (n ++ only Note (q .part) (q .bytes)) (b ++ only Body (q .part) (q .bytes)) (t ++ only Trailer (q .part) (q .bytes))
         ∙ and-one part n b t q (accepted K (andPiece part n b t q) qs)
-        ∙ ap (andAll part n b t) list)
-        (λ (h : isTaken K s q ≡ false).
-        let e : afterPiece K s q ≡ s = refused-session s q h in
-        let list : accepted K s qs ≡ accepted K s (q ∷ qs) =
-        ap (λ (u : K .Session). accepted K u qs) (sym e) ∙ sym (cond-false (isTaken K s q) _ _ h) in
-        ap (λ (u : K .Session). afterAll K u qs) e ∙ all-held qs part n b t ∙ ap (andAll part n b t) list)
+        ∙ ap (andAll part n b t) (taken-list part n b t q qs h))
+        (λ (h : isTaken K s q ≡ false). ap (λ (u : K .Session). afterAll K u qs) (refused-session K L s q h)
+        ∙ all-held qs part n b t
+        ∙ ap (andAll part n b t) (refused-list part n b t q qs h))
         (either (isTaken K s q))
 
-    fresh-held : freshOf K key nonce l r ≡ at Note [] [] []
+    -- what holds of the joined parts at first, and after each accepted piece where before it, holds at the end
+    pub all-kept : (P : Part → List ℕ → List ℕ → List ℕ → Type 0)
+        → ((part : Part) (n b t : List ℕ) (q : Piece) → isTaken K (at part n b t) q ≡ true → P part n b t
+        → P (q .part) (n ++ only Note (q .part) (q .bytes)) (b ++ only Body (q .part) (q .bytes)) (t ++ only Trailer (q .part) (q .bytes)))
+        → (qs : List Piece) (part : Part) (n b t : List ℕ) → P part n b t
+        → P (lastPart part (accepted K (at part n b t) qs)) (n ++ joined Note (accepted K (at part n b t) qs)) (b ++ joined Body (accepted K (at part n b t) qs)) (t ++ joined Trailer (accepted K (at part n b t) qs))
+    all-kept P step [] part n b t h = rw (append-nil n, append-nil b, append-nil t) h
+    all-kept P step (q ∷ qs) part n b t h =
+        let s : K .Session = at part n b t in
+        let rest : List Piece = accepted K (andPiece part n b t q) qs in
+        ⊎-elim
+        (λ (y : isTaken K s q ≡ true).
+        rw (← taken-list part n b t q qs y, ← append-assoc n (only Note (q .part) (q .bytes)) (joined Note rest), ← append-assoc b (only Body (q .part) (q .bytes)) (joined Body rest), ← append-assoc t (only Trailer (q .part) (q .bytes)) (joined Trailer rest))
+        (all-kept P step qs (q .part) (n ++ only Note (q .part) (q .bytes)) (b ++ only Body (q .part) (q .bytes)) (t ++ only Trailer (q .part) (q .bytes)) (step part n b t q y h)))
+        (λ (y : isTaken K s q ≡ false). rw (← refused-list part n b t q qs y) (all-kept P step qs part n b t h))
+        (either (isTaken K s q))
+
+    pub fresh-held : freshOf K key nonce l r ≡ at Note [] [] []
     unfolding freshOf
     fresh-held =
         ap (λ (x : List ℕ). K .make (freshPlace l r) (flatOf (fed (K .width) l headerMark (start (K .width) l (K .tagBits) (rowOf (K .width) key) (rowOf (K .width) nonce)) 0 x)) (rowOf (K .width) key))

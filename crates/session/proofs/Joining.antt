@@ -31,19 +31,19 @@ unfolding front bytesOf
 front-long r note = length-append (front r) note
 
 -- what a sound place says of the parts not yet reached
-unreached : (l r : ℕ) (part : Part) (n b t : List ℕ) → soundOf (placeIn l r part n b t) ≡ true → unreachedOf (placeIn l r part n b t) part ≡ true
+pub unreached : (l r : ℕ) (part : Part) (n b t : List ℕ) → soundOf (placeIn l r part n b t) ≡ true → unreachedOf (placeIn l r part n b t) part ≡ true
 unfolding soundOf
 unreached l r part n b t e = both (roundsOk l && withinOf (placeIn l r part n b t)) (unreachedOf (placeIn l r part n b t) part) e .1
 
-some-bytes : (y : ℕ) (b : List ℕ) → eqb (length (y ∷ b)) 0 ≡ true → ⊥
+pub some-bytes : (y : ℕ) (b : List ℕ) → eqb (length (y ∷ b)) 0 ≡ true → ⊥
 some-bytes y b e = let z : length (y ∷ b) ≡ 0 = eqb-true (length (y ∷ b)) 0 e in omega arith
 
 module _ (w : Width) (l : ℕ) where
-  ended-none : (m : ℕ) (s : State) → ended w l m s 0 ≡ s
+  pub ended-none : (m : ℕ) (s : State) → ended w l m s 0 ≡ s
   unfolding ended
   ended-none m s = refl
 
-  taken-none : (way : Way) (s : State) → taken w l way Body s 0 [] ≡ s
+  pub taken-none : (way : Way) (s : State) → taken w l way Body s 0 [] ≡ s
   unfolding taken fed unfed
   taken-none sealing s = refl
   taken-none checking s = refl
@@ -95,7 +95,7 @@ module _ (K : Kind) (key nonce : List ℕ) (l r : ℕ) where
       fed-more w l headerMark (start w l (K .tagBits) (rowOf w key) (rowOf w nonce)) (front r ++ n) x (frontBytes + length n) (sym (front-long r n))
       ∙ ap (fed w l headerMark (start w l (K .tagBits) (rowOf w key) (rowOf w nonce)) 0) (append-assoc (front r) n x)
 
-  ended-note : (n : List ℕ) → ended w l headerMark (inNote K key nonce l r n) (frontBytes + length n) ≡ afterNote K key nonce l r n
+  pub ended-note : (n : List ℕ) → ended w l headerMark (inNote K key nonce l r n) (frontBytes + length n) ≡ afterNote K key nonce l r n
   ended-note n = ap (ended w l headerMark (inNote K key nonce l r n)) (sym (front-long r n))
 
   note-body : (n x : List ℕ) → went Note n [] [] Body x ≡ S Body n x []

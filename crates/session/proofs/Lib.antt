@@ -1,5 +1,10 @@
 pub mod Parts
 pub mod Steps
+pub mod Refused
 pub mod Joining
 pub mod Flat
 pub mod Held
+pub mod Wrote
+pub mod Whole
+pub mod Demand
+pub mod Four

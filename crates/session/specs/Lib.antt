@@ -1,3 +1,4 @@
 pub mod Sessions
 pub mod Kinds
 pub mod Offered
+pub mod Promises

@@ -1,0 +1,242 @@
+-- Demand 3, once over the kind of session, its width and its tag bits, for any list of pieces offered after a start that was answered 0.
+-- Assumes nothing.
+use mathlib.Core.Path.{_≡_, refl, sym, ap, ap₂, _∙_}
+use mathlib.Core.Bool.{Bool, true, false, cond}
+use mathlib.Core.Logic.{⊎-elim}
+use mathlib.Core.List.{List, [], _∷_, _++_}
+use mathlib.Core.Option.{Option, none, some}
+use Prim.Native.Nat.{ℕ, _+_, _-_, _/_}
+use native.Mathlib.Omega.{arith}
+use borrow.Author.Tests.{le-leb}
+use lib.Dec.{leb}
+use lib.ListN.{length, take, drop, length-append}
+use lib.Seq.{take-at, drop-at}
+use Rattle.norx.specs.Norx.{State, rowBytes, rowOf, ciphertext, message, tagOf, beforeBody, tag, sealed, same, bodyPart, tagPart, recovered, opened}
+use Rattle.norx.specs.Front.{front}
+use Rattle.norx.specs.Stream.{fedText, unfed}
+use Rattle.norx.proofs.Bytes.{Bytes, bytes-nil, bytes-append}
+use Rattle.answers.specs.declared.Answer.{Answer}
+use Rattle.answers.specs.declared.Answer.the-variants.{Done, TagDiffers}
+use Rattle.answers.specs.Answers.{doneOf, needOf}
+use Rattle.sealing.specs.Calls.{roundsOk, answerOf}
+use Rattle.places.specs.declared.Part.{Part}
+use Rattle.places.specs.declared.Part.the-variants.{Note, Body, Trailer}
+use Rattle.places.specs.declared.Standing.{Standing}
+use Rattle.places.specs.declared.Standing.the-variants.{Closed, Open}
+use Rattle.places.specs.declared.Place.{Place}
+use Rattle.places.specs.Places.{countOf, limitOf, freshPlace, soundAt, soundOf, startAnswer, closeAnswer}
+use Rattle.places.proofs.Accepts.{startable, moved-sound, sound-closes}
+use Rattle.session.specs.Sessions.{Way, sealing, checking, brought, readied, verdictOf, Kind, closedOf, stateOf, freshOf, startOf, ownTag, closeAnswerOf, closeOf, closeTag}
+use Rattle.session.specs.Offered.{Piece, isTaken, afterPiece, afterAll, accepted, wroteAll, only, joined, lastPart, placeIn, afterNote, inTrailer, stateIn, held, heldBy}
+use Rattle.session.specs.Promises.{AreBytes, OneSession, Alike, OneSealing, OneOpening}
+use Rattle.session.proofs.Joining.{moved-place}
+use Rattle.session.proofs.Refused.{Lawful, either, cond-true, cond-false}
+use Rattle.session.proofs.Held.{place-held, state-held, accepted-held, all-kept, fresh-held, session-held}
+use Rattle.session.proofs.Wrote.{cipher, all-wrote}
+use Rattle.session.proofs.Whole.{closing-whole, tag-whole, text-whole, message-whole}
+
+bytes-only : (k part : Part) (x : List ℕ) → Bytes x → Bytes (only k part x)
+bytes-only Note Note x h = h
+bytes-only Note Body x h = bytes-nil
+bytes-only Note Trailer x h = bytes-nil
+bytes-only Body Note x h = bytes-nil
+bytes-only Body Body x h = h
+bytes-only Body Trailer x h = bytes-nil
+bytes-only Trailer Note x h = bytes-nil
+bytes-only Trailer Body x h = bytes-nil
+bytes-only Trailer Trailer x h = h
+
+bytes-joined : (K : Kind) (k : Part) (qs : List Piece) (s : K .Session) → AreBytes qs → Bytes (joined k (accepted K s qs))
+bytes-joined K k [] s h = bytes-nil
+bytes-joined K k (q ∷ qs) s h =
+    let rest : Bytes (joined k (accepted K (afterPiece K s q) qs)) = bytes-joined K k qs (afterPiece K s q) (h .1) in
+    ⊎-elim
+    (λ (e : isTaken K s q ≡ true). rw (cond-true (isTaken K s q) (q ∷ accepted K (afterPiece K s q) qs) (accepted K (afterPiece K s q) qs) e)
+    (bytes-append (only k (q .part) (q .bytes)) (joined k (accepted K (afterPiece K s q) qs)) (bytes-only k (q .part) (q .bytes) (h .0)) rest))
+    (λ (e : isTaken K s q ≡ false). rw (cond-false (isTaken K s q) (q ∷ accepted K (afterPiece K s q) qs) (accepted K (afterPiece K s q) qs) e) rest)
+    (either (isTaken K s q))
+
+abbrev part-of : Standing → Part
+part-of Closed = Note
+part-of (Open part) = part
+
+module _ (K : Kind) (L : Lawful K) (key nonce : List ℕ) (l r : ℕ) where
+  -- ---- a start that is answered 0
+
+  answer-start : K .answer (startOf K key nonce l r) ≡ startAnswer (rowBytes (K .width)) l (length key) (length nonce)
+  unfolding startOf
+  answer-start = L .answered _ _
+
+  pub started : doneOf (K .answer (startOf K key nonce l r)) ≡ true → K .next (startOf K key nonce l r) ≡ freshOf K key nonce l r
+  unfolding startOf
+  started h = L .stepped _ _ ∙ cond-true _ _ _ (sym (ap doneOf answer-start) ∙ h)
+
+  module _ (begun : doneOf (K .answer (startOf K key nonce l r)) ≡ true) where
+    -- the session that the start gave, and of pieces offered to it those that it accepted
+    abbrev pub s₀ : K .Session
+    s₀ = K .next (startOf K key nonce l r)
+
+    abbrev pub took : List Piece → List Piece
+    took qs = accepted K s₀ qs
+
+    took-fresh : (qs : List Piece) → took qs ≡ accepted K (held K key nonce l r Note [] [] []) qs
+    took-fresh qs = ap (λ (s : K .Session). accepted K s qs) (started begun ∙ fresh-held K L key nonce l r)
+
+    -- the session held is the one of the accepted pieces joined part by part
+    session-is : (qs : List Piece) → afterAll K s₀ qs ≡ heldBy K key nonce l r (took qs)
+    session-is qs = rw (started begun) (session-held K L key nonce l r qs)
+
+    -- two sessions begun alike, in the same part, with the same joined pieces, are equal
+    alike-is : (qs qs′ : List Piece) → K .place (afterAll K s₀ qs) .standing ≡ K .place (afterAll K s₀ qs′) .standing
+        → joined Note (took qs) ≡ joined Note (took qs′) → joined Body (took qs) ≡ joined Body (took qs′) → joined Trailer (took qs) ≡ joined Trailer (took qs′)
+        → afterAll K s₀ qs ≡ afterAll K s₀ qs′
+    alike-is qs qs′ same-standing en eb et =
+        let stands : (xs : List Piece) → K .place (afterAll K s₀ xs) .standing ≡ Open (lastPart Note (took xs)) =
+        λ xs. ap (λ (s : K .Session). K .place s .standing) (session-is xs) ∙ ap (λ (p : Place). p .standing) (L .placed _ _ _) in
+        let same-part : lastPart Note (took qs) ≡ lastPart Note (took qs′) = ap part-of (sym (stands qs) ∙ same-standing ∙ stands qs′) in
+        session-is qs
+        ∙ (λ i. held K key nonce l r (same-part i) (en i) (eb i) (et i))
+        ∙ sym (session-is qs′)
+
+    -- ---- a session that was started stays sound
+
+    abbrev place : List Piece → Place
+    place qs = placeIn l r (lastPart Note (took qs)) (joined Note (took qs)) (joined Body (took qs)) (joined Trailer (took qs))
+
+    abbrev Sound : Part → List ℕ → List ℕ → List ℕ → Type 0
+    Sound part n b t = soundOf (placeIn l r part n b t) ≡ true
+
+    sound-step : (part : Part) (n b t : List ℕ) (q : Piece) → isTaken K (held K key nonce l r part n b t) q ≡ true → Sound part n b t
+        → Sound (q .part) (n ++ only Note (q .part) (q .bytes)) (b ++ only Body (q .part) (q .bytes)) (t ++ only Trailer (q .part) (q .bytes))
+    unfolding soundOf
+    sound-step part n b t q h e =
+        let a = accepted-held K L key nonce l r part n b t q h in
+        let p : Place = placeIn l r part n b t in
+        sym (ap (λ (y : Place). soundAt (Open (q .part)) y) (moved-place l r part n b t (q .part) (q .bytes)))
+        ∙ moved-sound p (length (q .bytes)) (q .part) (a .sound) (a .onward) (le-leb _ _ (a .room))
+
+    fresh-sound : Sound Note [] [] []
+    unfolding soundOf
+    fresh-sound = rw (startable (rowBytes (K .width)) l (length key) (length nonce) (sym (ap doneOf answer-start) ∙ begun) .0)
+
+    pub stays-sound : (qs : List Piece) → soundOf (place qs) ≡ true
+    stays-sound qs = rw (took-fresh qs) (all-kept K L key nonce l r Sound sound-step qs Note [] [] [] fresh-sound)
+
+    -- ---- its close under its own revision, with a tag of the right length
+
+    module _ (qs : List Piece) (offered : AreBytes qs) where
+      abbrev n : List ℕ
+      n = joined Note (took qs)
+
+      abbrev b : List ℕ
+      b = joined Body (took qs)
+
+      abbrev t : List ℕ
+      t = joined Trailer (took qs)
+
+      abbrev part : Part
+      part = lastPart Note (took qs)
+
+      bytes-of : (k : Part) → Bytes (joined k (took qs))
+      bytes-of k = bytes-joined K k qs s₀ offered
+
+      closes : (given : List ℕ) → length given ≡ K .tagBits / 8 → closeAnswerOf K (held K key nonce l r part n b t) r given ≡ Done
+      unfolding closeAnswerOf
+      closes given h =
+          ap (λ (p : Place). closeAnswer p r (K .tagBits / 8) (length given)) (place-held K L key nonce l r part n b t)
+          ∙ sound-closes (place qs) (K .tagBits / 8) (length given) (stays-sound qs) h
+
+      own : ownTag K (held K key nonce l r part n b t) ≡ tag (K .width) l (K .tagBits) key nonce (front r ++ n) (brought (K .width) l Body (K .way) (afterNote K key nonce l r n) 0 b) t
+      unfolding ownTag
+      own =
+          ap₂ (λ (p : Place) (k : List ℕ). tagOf (K .width) (p .rounds) (K .tagBits) k (readied (K .width) (p .rounds) p 3 (stateOf K (held K key nonce l r part n b t))))
+          (place-held K L key nonce l r part n b t) (L .keyed _ _ _)
+          ∙ ap (λ (s : State). tagOf (K .width) l (K .tagBits) (rowOf (K .width) key) (readied (K .width) l (place qs) 3 s)) (state-held K L key nonce l r part n b t)
+          ∙ ap (tagOf (K .width) l (K .tagBits) (rowOf (K .width) key)) (closing-whole K key nonce l r part n b t (stays-sound qs))
+          ∙ tag-whole K key nonce l r n b t (bytes-of Note) (bytes-of Body) (bytes-of Trailer)
+
+      -- the answer is what the tags come to, and the session is the closed one
+      close-is : (given : List ℕ) → length given ≡ K .tagBits / 8
+          → closeOf K (afterAll K s₀ qs) r given ≡ K .step (verdictOf (K .way) given (ownTag K (held K key nonce l r part n b t))) (closedOf K)
+      unfolding closeOf
+      close-is given h = rw (session-is qs) (cond-true _ _ _ (ap doneOf (closes given h)))
+
+      pub closes-session : (given : List ℕ) → length given ≡ K .tagBits / 8 → K .next (closeOf K (afterAll K s₀ qs) r given) ≡ closedOf K
+      closes-session given h = ap (λ (x : K .Step). K .next x) (close-is given h) ∙ L .stepped _ _
+
+      -- ---- one sealing
+
+      module _ (seals : K .way ≡ sealing) where
+        pub one-ciphertext : wroteAll K s₀ qs ≡ ciphertext (K .width) l (beforeBody (K .width) l (K .tagBits) key nonce (front r ++ n)) b
+        unfolding fedText
+        one-ciphertext =
+            ap (λ (s : K .Session). wroteAll K s qs) (started begun ∙ fresh-held K L key nonce l r)
+            ∙ all-wrote K seals key nonce l r L qs Note [] [] []
+            ∙ ap (λ (as′ : List Piece). cipher K seals key nonce l r (joined Note as′) (joined Body as′)) (sym (took-fresh qs))
+            ∙ text-whole K key nonce l r n b t (bytes-of Note) (bytes-of Body) (bytes-of Trailer)
+
+        pub one-tag : (given : List ℕ) → length given ≡ K .tagBits / 8
+            → closeTag K (afterAll K s₀ qs) r given ≡ tag (K .width) l (K .tagBits) key nonce (front r ++ n) b t
+        unfolding closeTag
+        one-tag given h =
+            ap (λ (s : K .Session). cond (doneOf (closeAnswerOf K s r given)) (ownTag K s) given) (session-is qs)
+            ∙ cond-true _ _ _ (ap doneOf (closes given h)) ∙ own
+            ∙ ap (λ (way : Way). tag (K .width) l (K .tagBits) key nonce (front r ++ n) (brought (K .width) l Body way (afterNote K key nonce l r n) 0 b) t) seals
+
+        -- the ciphertext written, joined, and the tag at the close are one sealing of the joined pieces, with the revision in front
+        sealing-is : (given : List ℕ) → length given ≡ K .tagBits / 8
+            → (K .answer (closeOf K (afterAll K s₀ qs) r given) ≡ Done)
+            × (wroteAll K s₀ qs ++ closeTag K (afterAll K s₀ qs) r given ≡ sealed (K .width) l (K .tagBits) key nonce (front r ++ n) b t)
+        unfolding sealed
+        sealing-is given h = (
+          ap (λ (x : K .Step). K .answer x) (close-is given h) ∙ L .answered _ _ ∙ ap (λ (way : Way). verdictOf way given (ownTag K (held K key nonce l r part n b t))) seals,
+          ap₂ (λ (x y : List ℕ). x ++ y) one-ciphertext (one-tag given h),
+        )
+
+      -- ---- one opening
+
+      module _ (checks : K .way ≡ checking) where
+        abbrev text : List ℕ → List ℕ
+        text given = b ++ given
+
+        cut : (given : List ℕ) → length given ≡ K .tagBits / 8 → length (text given) - K .tagBits / 8 ≡ length b
+        cut given h = omega (arith, length-append b given)
+
+        verdict-is : (x : Bool) (m : List ℕ) → needOf x TagDiffers Done ≡ answerOf (cond x (some m) none)
+        unfolding needOf
+        verdict-is true m = refl
+        verdict-is false m = refl
+
+        -- the check answers as one opening of the joined ciphertext and that tag does: 0 where it gives a message, and 10 where it gives none
+        opening-is : (given : List ℕ) → length given ≡ K .tagBits / 8
+            → K .answer (closeOf K (afterAll K s₀ qs) r given) ≡ answerOf (opened (K .width) l (K .tagBits) key nonce (front r ++ n) (b ++ given) t)
+        unfolding opened recovered
+        opening-is given h =
+            let m : List ℕ = recovered (K .width) l (K .tagBits) key nonce (front r ++ n) (text given) in
+            let body-is : bodyPart (K .tagBits) (text given) ≡ b = take-at b given (length (text given) - K .tagBits / 8) (sym (cut given h)) in
+            let tag-is : tagPart (K .tagBits) (text given) ≡ given = drop-at b given (length (text given) - K .tagBits / 8) (sym (cut given h)) in
+            let msg-is : brought (K .width) l Body (K .way) (afterNote K key nonce l r n) 0 b ≡ m =
+            ap (λ (way : Way). brought (K .width) l Body way (afterNote K key nonce l r n) 0 b) checks
+            ∙ message-whole K key nonce l r n b t (bytes-of Note) (bytes-of Body) (bytes-of Trailer)
+            ∙ ap (message (K .width) l (beforeBody (K .width) l (K .tagBits) key nonce (front r ++ n))) (sym body-is) in
+            let own-is : ownTag K (held K key nonce l r part n b t) ≡ tag (K .width) l (K .tagBits) key nonce (front r ++ n) m t =
+            own ∙ ap (λ (x : List ℕ). tag (K .width) l (K .tagBits) key nonce (front r ++ n) x t) msg-is in
+            ap (λ (x : K .Step). K .answer x) (close-is given h) ∙ L .answered _ _
+            ∙ ap₂ (λ (way : Way) (x : List ℕ). verdictOf way given x) checks own-is
+            ∙ verdict-is (same given (tag (K .width) l (K .tagBits) key nonce (front r ++ n) m t)) m
+            ∙ ap (λ (x : List ℕ). answerOf (cond (same x (tag (K .width) l (K .tagBits) key nonce (front r ++ n) m t)) (some m) none)) (sym tag-is)
+
+-- ---- the promises
+
+module _ (K : Kind) (L : Lawful K) where
+  pub one-session : OneSession K
+  one-session key nonce l r h qs = session-is K L key nonce l r h qs
+
+  pub alike : Alike K
+  alike key nonce l r h qs qs′ = alike-is K L key nonce l r h qs qs′
+
+  pub one-sealing : K .way ≡ sealing → OneSealing K
+  one-sealing seals key nonce l r h qs b tag long = sealing-is K L key nonce l r h qs b seals tag long
+
+  pub one-opening : K .way ≡ checking → OneOpening K
+  one-opening checks key nonce l r h qs b tag long = opening-is K L key nonce l r h qs b checks tag long
