@@ -6,6 +6,12 @@ use denote.Triple.Clauses.{AtExit}
 use contract.Lifetimes.{Lfts}
 use borrow.Fn.World.{ArgsD, ResD}
 use borrow.Fn.Kinds.{endedOf}
+use Rattle.sealing.proofs.checks.rounds_ok.{signature as signature-checks-rounds-ok}
+use Rattle.sealing.proofs.checks.rounds_ok.Kinds as kinds-checks-rounds-ok
+use Rattle.sealing.proofs.checks.rounds_ok.Reads.{Post as Post-checks-rounds-ok}
+use Rattle.sealing.proofs.checks.lengths_ok.{signature as signature-checks-lengths-ok}
+use Rattle.sealing.proofs.checks.lengths_ok.Kinds as kinds-checks-lengths-ok
+use Rattle.sealing.proofs.checks.lengths_ok.Reads.{Post as Post-checks-lengths-ok}
 use Rattle.sealing.proofs.checks.seal_checks.{signature as signature-checks-seal-checks}
 use Rattle.sealing.proofs.checks.seal_checks.Kinds as kinds-checks-seal-checks
 use Rattle.sealing.proofs.checks.seal_checks.Reads.{Post as Post-checks-seal-checks}
@@ -24,6 +30,14 @@ use Rattle.sealing.proofs.w64.seal.Reads.{Post as Post-w64-seal}
 use Rattle.sealing.proofs.w64.open.{signature as signature-w64-open}
 use Rattle.sealing.proofs.w64.open.Kinds as kinds-w64-open
 use Rattle.sealing.proofs.w64.open.Reads.{Post as Post-w64-open}
+
+pub one-rounds-ok : (κs : Lfts 0) (a : ArgsD signature-checks-rounds-ok κs) (r r′ : ResD signature-checks-rounds-ok κs) (s s′ : AtExit (endedOf 0 kinds-checks-rounds-ok.ps kinds-checks-rounds-ok.r) κs)
+    → Post-checks-rounds-ok κs a r s → Post-checks-rounds-ok κs a r′ s′ → r ≡ r′
+one-rounds-ok κs a r r′ s s′ p q = p ∙ sym q
+
+pub one-lengths-ok : (κs : Lfts 0) (a : ArgsD signature-checks-lengths-ok κs) (r r′ : ResD signature-checks-lengths-ok κs) (s s′ : AtExit (endedOf 0 kinds-checks-lengths-ok.ps kinds-checks-lengths-ok.r) κs)
+    → Post-checks-lengths-ok κs a r s → Post-checks-lengths-ok κs a r′ s′ → r ≡ r′
+one-lengths-ok κs a r r′ s s′ p q = p ∙ sym q
 
 pub one-seal-checks : (κs : Lfts 0) (a : ArgsD signature-checks-seal-checks κs) (r r′ : ResD signature-checks-seal-checks κs) (s s′ : AtExit (endedOf 0 kinds-checks-seal-checks.ps kinds-checks-seal-checks.r) κs)
     → Post-checks-seal-checks κs a r s → Post-checks-seal-checks κs a r′ s′ → r ≡ r′

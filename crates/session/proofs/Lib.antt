@@ -8,3 +8,4 @@ pub mod Wrote
 pub mod Whole
 pub mod Demand
 pub mod Four
+pub mod Unique

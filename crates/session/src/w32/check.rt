@@ -68,10 +68,10 @@ impl Checking {
     {
         let answer = start_answer(16, rounds, key.len(), nonce.len());
         if done(answer) {
-            let next = Checking::fresh(key, nonce, rounds, revision);
+            let fresh = Checking::fresh(key, nonce, rounds, revision);
             CheckingStep {
                 answer: answer,
-                session: next,
+                session: fresh,
             }
         } else {
             let none = Checking::closed();
@@ -117,10 +117,10 @@ impl Checking {
             let key = self.key;
             let own = own_tag(rows(words), p, key);
             let verdict = need(same(tag, &own), Answer::TagDiffers, Answer::Done);
-            let next = Checking::closed();
+            let closed = Checking::closed();
             CheckingStep {
                 answer: verdict,
-                session: next,
+                session: closed,
             }
         } else {
             CheckingStep {

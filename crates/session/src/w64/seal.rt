@@ -66,10 +66,10 @@ impl Sealing {
     {
         let answer = start_answer(32, rounds, key.len(), nonce.len());
         if done(answer) {
-            let next = Sealing::fresh(key, nonce, rounds, revision);
+            let fresh = Sealing::fresh(key, nonce, rounds, revision);
             SealingStep {
                 answer: answer,
-                session: next,
+                session: fresh,
             }
         } else {
             let none = Sealing::closed();
@@ -124,10 +124,10 @@ impl Sealing {
             let key = self.key;
             let own = own_tag(rows(words), p, key);
             bytes::copy(&own, tag);
-            let next = Sealing::closed();
+            let closed = Sealing::closed();
             SealingStep {
                 answer: Answer::Done,
-                session: next,
+                session: closed,
             }
         } else {
             SealingStep {
