@@ -1,0 +1,63 @@
+// The gateway: each call of a checking session, printed on a line with its answer.
+use crate::job::KEY;
+use crate::job::ROUNDS;
+use crate::told::say;
+use crate::told::say_answer;
+use crate::told::say_number;
+use crate::told::say_part;
+use places::Part;
+use session::w64::check::Checking;
+use session::w64::check::CheckingStep;
+
+pub(crate) fn start(nonce: &[u8], revision: u64) -> Checking {
+    let step = Checking::start(&KEY, nonce, ROUNDS, revision);
+    say(b"  start a session for ");
+    say_number(revision);
+    let answer = step.answer;
+    say_answer(answer);
+    step.session
+}
+
+pub(crate) fn piece(
+    s: Checking,
+    revision: u64,
+    part: Part,
+    offset: usize,
+    bytes: &[u8],
+    name: &[u8],
+) -> Checking {
+    let step = s.piece(revision, part, offset, bytes);
+    say(b"  ");
+    say_number(revision);
+    say(b", ");
+    say_part(part);
+    say(b" from ");
+    say_number(offset as u64);
+    say(b", ");
+    say(name);
+    let answer = step.answer;
+    say_answer(answer);
+    step.session
+}
+
+pub(crate) fn close(s: Checking, revision: u64, tag: &[u8], name: &[u8]) -> CheckingStep {
+    let step = s.close(revision, tag);
+    say(b"  close under ");
+    say_number(revision);
+    say(b", ");
+    say(name);
+    let answer = step.answer;
+    say_answer(answer);
+    step
+}
+
+// The bytes of each part that a session has taken.
+pub(crate) fn say_taken(s: Checking) {
+    say(b"note ");
+    say_number(s.note as u64);
+    say(b", body ");
+    say_number(s.body as u64);
+    say(b", trailer ");
+    say_number(s.trailer as u64);
+    say(b"\n");
+}
