@@ -1,12 +1,12 @@
-# make: proves every crate, shows what the programs write, and builds the C library.
+# make: proves every crate, runs every program, shows the accident replayed, and builds the C library.
 # make test: the tests outside the proof, and then the merge gate.   make bench: the library beside a C implementation.
 .PHONY: all library test outside bench clean
 MAKEFLAGS += --no-print-directory
 
 all:
-	@echo "Proving every crate, then running each program and comparing what it writes:"
+	@echo "Proving every crate, then running each program and comparing what it writes with what it must:"
 	@rt check
-	@tests/show.sh vectors
+	@tests/show.sh replay
 	@$(MAKE) library
 	@echo
 	@echo "The C library is target/staticlib/libjeczmilot.a, and its header include/jeczmilot.h"
