@@ -1,6 +1,8 @@
 # make: proves every crate, runs every program, shows the accident replayed, and builds the C library.
 # make test: the tests outside the proof, and then the merge gate.   make bench: the library beside a C implementation.
-.PHONY: all library test outside bench clean
+# make install PREFIX=..: the library, its header and a pkg-config file, for a C build to find.
+.PHONY: all library install test outside bench clean
+PREFIX ?= /usr/local
 MAKEFLAGS += --no-print-directory
 
 all:
@@ -14,6 +16,9 @@ all:
 library:
 	@rt staticlib jeczmilot
 
+install: library
+	@packaging/install.sh $(abspath $(PREFIX))
+
 test: outside
 	@echo
 	@echo "The merge gate: every crate from nothing, every must-fail edit, every program:"
@@ -24,7 +29,7 @@ outside: library
 	@tests/archive.sh
 	@echo "The rows on limits:"
 	@tests/limits.sh
-	@echo "The README's program:"
+	@echo "The README's program, with the archive and with what is installed:"
 	@tests/readme.sh
 	@echo "The library beside an independent implementation:"
 	@tests/run.sh

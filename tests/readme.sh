@@ -1,5 +1,6 @@
 #!/bin/sh
-# Builds the C program of the README as it stands there, with the archive, and compares what it writes with what the README says:
+# Builds the C program of the README as it stands there, once with the archive and once against what `make install` puts
+# in place, and compares what it writes with what the README says:
 #   tests/readme.sh [ARCHIVE]
 
 set -eu
@@ -9,8 +10,20 @@ set -eu
 mkdir -p target/tests
 awk '/^```c$/ { on = 1; next } /^```$/ { on = 0 } on' README.md >target/tests/readme.c
 awk '/^It writes:$/ { on = 1; next } on && /^    / { print substr($0, 5); seen = 1; next } seen { exit }' README.md >target/tests/readme.txt
-# The flags are lists of words.
-# shellcheck disable=SC2086
-$CC $CFLAGS -Iinclude -o target/tests/readme target/tests/readme.c "$archive" $LDFLAGS
-$RUN target/tests/readme | tee target/tests/readme.out
-cmp target/tests/readme.txt target/tests/readme.out
+
+# Builds it with the flags given, runs it and compares.
+try() {
+    # The flags are lists of words.
+    # shellcheck disable=SC2086
+    $CC $CFLAGS -o target/tests/readme target/tests/readme.c "$@" $LDFLAGS
+    $RUN target/tests/readme | tee target/tests/readme.out
+    cmp target/tests/readme.txt target/tests/readme.out
+}
+
+try -Iinclude "$archive"
+
+packaging/install.sh "$root/target/tests/installed" "$archive"
+PKG_CONFIG_LIBDIR=$root/target/tests/installed/lib/pkgconfig
+export PKG_CONFIG_LIBDIR
+# shellcheck disable=SC2046
+try $(pkg-config --cflags --libs jeczmilot)

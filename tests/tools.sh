@@ -1,5 +1,5 @@
 #!/bin/sh
-# Sourced or run: installs the C compiler that is missing and sets CC, CFLAGS, LDFLAGS, NM and RUN.
+# Sourced or run: installs the C compiler and pkg-config where they are missing, and sets CC, CFLAGS, LDFLAGS, NM and RUN.
 # The archive is for x86-64, so an Arm host compiles for x86-64 and runs the programs under qemu.
 
 set -eu
@@ -43,6 +43,7 @@ CFLAGS="-std=c11 -O3 -Wall -Wextra"
 case $(uname -m) in
 x86_64)
     is_there cc || install_packages gcc libc6-dev
+    is_there pkg-config || install_packages pkg-config
     CC=cc
     NM='nm'
     LDFLAGS=
@@ -50,6 +51,7 @@ x86_64)
     ;;
 aarch64)
     has_cross_tools || install_packages gcc-x86-64-linux-gnu libc6-dev-amd64-cross qemu-user
+    is_there pkg-config || install_packages pkg-config
     CC=x86_64-linux-gnu-gcc
     NM=x86_64-linux-gnu-nm
     LDFLAGS=-static
