@@ -1,6 +1,6 @@
 #!/bin/sh
 # Builds the C program of the README as it stands there, once with the archive and once against what `make install` puts
-# in place, and compares what it writes with what the README says:
+# in place, and compares what it writes with what the README says; and the README's story with what the program replay must write:
 #   tests/readme.sh [ARCHIVE]
 
 set -eu
@@ -27,3 +27,7 @@ PKG_CONFIG_LIBDIR=$root/target/tests/installed/lib/pkgconfig
 export PKG_CONFIG_LIBDIR
 # shellcheck disable=SC2046
 try $(pkg-config --cflags --libs jeczmilot)
+
+awk '/^```$/ { on = !on; next } on && !done { print; seen = 1 } !on && seen { done = 1 }' README.md | sed -n "1,$(wc -l <crates/replay/stdout)p" >target/tests/story.txt
+cmp crates/replay/stdout target/tests/story.txt
+echo "the README's story is what the program replay writes"
