@@ -1,0 +1,59 @@
+// The ways in which jobs are offered.
+
+pub(crate) enum Way {
+    // The first bytes of one revision and the rest of the other, in both orders, with either tag.
+    Cut,
+    // Two pieces of one revision in each other's place.
+    Swapped,
+    // A piece twice.
+    Repeated,
+    // A piece left out.
+    Dropped,
+    // Six pieces with bytes, offsets and revisions changed at random, then the rest of the honest job.
+    Random,
+    // The honest job whole and in every cut into two, also with retries between that are refused.
+    Honest,
+}
+
+// How many jobs a way has: half of them for sessions of revision 11, half of 12.
+pub(crate) fn jobs(way: Way) -> u32 {
+    match way {
+        Way::Cut => 2400,
+        Way::Swapped => 580,
+        Way::Repeated => 104,
+        Way::Dropped => 104,
+        Way::Random => 20000,
+        Way::Honest => 1200,
+    }
+}
+
+// How a job ends: with the tag of the other revision, or a close under it.
+pub(crate) struct End {
+    pub foreign_tag: bool,
+    pub foreign_close: bool,
+}
+
+// The end of the m'th job of a way for one revision.
+pub(crate) fn ending(way: Way, m: u32, x: u64) -> End {
+    match way {
+        Way::Cut => End {
+            foreign_tag: m % 2 == 1,
+            foreign_close: false,
+        },
+        Way::Random => End {
+            foreign_tag: x % 4 == 0,
+            foreign_close: x / 4 % 8 == 0,
+        },
+        Way::Swapped => own_end(),
+        Way::Repeated => own_end(),
+        Way::Dropped => own_end(),
+        Way::Honest => own_end(),
+    }
+}
+
+fn own_end() -> End {
+    End {
+        foreign_tag: false,
+        foreign_close: false,
+    }
+}
