@@ -22,7 +22,7 @@ pub(crate) fn jobs(way: Way) -> u32 {
         Way::Swapped => 580,
         Way::Repeated => 104,
         Way::Dropped => 104,
-        Way::Random => 20000,
+        Way::Random => 4000,
         Way::Honest => 1200,
     }
 }

@@ -43,9 +43,6 @@ xor-assoc =
     ∙ sym (xor-step n (bitXor b c)))
 
 -- what is xored in twice is gone
-pub xor-twice : (a b : ℕ) → bitXor (bitXor a b) b ≡ a
-xor-twice a b = xor-assoc a b b ∙ ap (bitXor a) (xor-self b) ∙ xor-zero-r a
-
 pub twice-xor : (a b : ℕ) → bitXor a (bitXor a b) ≡ b
 twice-xor a b = sym (xor-assoc a a b) ∙ ap (λ (x : ℕ). bitXor x b) (xor-self a)
 

@@ -66,7 +66,6 @@ abbrev pub tagMark : ℕ
 tagMark = 0x08
 
 -- ---- Words and bytes: words are little-endian
-
 -- the word of some bytes, the least first
 unfoldable pub wordOf : List ℕ → ℕ
 wordOf [] = 0
@@ -119,7 +118,6 @@ xorRow r q =
     row (bitXor (wordAt r 0) (wordAt q 0)) (bitXor (wordAt r 1) (wordAt q 1)) (bitXor (wordAt r 2) (wordAt q 2)) (bitXor (wordAt r 3) (wordAt q 3))
 
 -- ---- The core permutation
-
 -- x rotated right by r: the r low bits go to the top, the others down by r
 unfoldable pub ror : Width → ℕ → ℕ → ℕ
 ror w r x = x % 2 ^ r * 2 ^ (bits w - r) + x / 2 ^ r
@@ -186,9 +184,7 @@ constants w = P w 2 (rows (row 0 1 2 3) (row 4 5 6 7) (row 8 9 10 11) (row 12 13
 
 -- ---- Sealing, step by step
 
--- k and n are the four words of the key and of the nonce
-
--- the key xored into s12..s15
+-- the key xored into s12..s15; k and n are the four words of the key and of the nonce
 unfoldable pub keyed : List ℕ → State → State
 keyed k s = rows (rowAt s 0) (rowAt s 1) (rowAt s 2) (xorRow (rowAt s 3) k)
 
@@ -269,7 +265,6 @@ module _ (w : Width) (l t : ℕ) (key nonce header : List ℕ) where
   sealed body trailer = ciphertext w l beforeBody body ++ tag body trailer
 
 -- ---- Opening
-
 -- Opening recovers each body byte as ciphertext xor the rate byte after P, and the state takes in the recovered message with its padding.
 unfoldable pub messageBlocks : Width → ℕ → State → List ℕ → ℕ → List ℕ
 messageBlocks w l s c zero = []

@@ -130,7 +130,7 @@ impl Checking {
         }
     }
 
-    // The one closed session.
+    // The one closed session: every number in it is zero.
     fn closed() -> Checking
         ensures { λ r. ⌜ r ≡ closedOf checking32 ⌝ }
     {
@@ -148,6 +148,7 @@ impl Checking {
         }
     }
 
+    // All of a session but its words and its key.
     fn place(self) -> Place
         ensures { λ r. ⌜ r ≡ checkingPlace32 self ⌝ }
     {
@@ -162,6 +163,7 @@ impl Checking {
         }
     }
 
+    // A session put together from its place, its state and its key.
     fn made(p: Place, s: [[u32; 4]; 4], key: [u32; 4]) -> Checking
         ensures { λ r. ⌜ r ≡ checkingMade32 p (flatOf s) key ⌝ }
     {
@@ -179,6 +181,7 @@ impl Checking {
         }
     }
 
+    // Open in the note, with nothing of it yet.
     fn fresh(key: &[u8], nonce: &[u8], rounds: u32, revision: u64) -> Checking
         requires { ⌜ (length (now key) ≡ 16) × (length (now nonce) ≡ 16) ⌝ }
         ensures { λ r. ⌜ r ≡ freshOf checking32 (now (key .entry)) (now (nonce .entry)) rounds revision ⌝ }
