@@ -1,5 +1,5 @@
 # make: proves every crate, runs every program, shows the accident replayed, and builds the C library.
-# make test: the tests outside the proof, and then the merge gate.   make bench: the library beside a C implementation.
+# make test: the tests outside the proof, and then the merge gate.   make bench: the library beside a C implementation, and a session beside one call.
 # make install PREFIX=..: the library, its header and a pkg-config file, for a C build to find.
 .PHONY: all library install test outside bench clean
 PREFIX ?= /usr/local
@@ -35,6 +35,7 @@ outside: library
 	@tests/run.sh
 
 bench: library
+	@rt staticlib paced
 	@tests/bench.sh
 
 clean:
