@@ -30,14 +30,14 @@ fn turned(x: u64, y: u64, z: u64, right: u32) -> u64
 fn g(a: u64, b: u64, c: u64, d: u64) -> [u64; 4]
     ensures { λ r. ⌜ r ≡ gOf word64 a b c d ⌝ }
 {
-    let a1 = h(a, b);
     let d1 = turned(a, b, d, 8);
-    let c1 = h(c, d1);
+    let a1 = h(a, b);
     let b1 = turned(c, d1, b, 19);
-    let a2 = h(a1, b1);
+    let c1 = h(c, d1);
     let d2 = turned(a1, b1, d1, 40);
-    let c2 = h(c1, d2);
+    let a2 = h(a1, b1);
     let b2 = turned(c1, d2, b1, 63);
+    let c2 = h(c1, d2);
     [a2, b2, c2, d2]
 }
 
@@ -75,20 +75,20 @@ fn diagonals(p: [u64; 4], q: [u64; 4], u: [u64; 4], v: [u64; 4]) -> [[u64; 4]; 4
 fn column_step(s: [[u64; 4]; 4]) -> [[u64; 4]; 4]
     ensures { λ r. ⌜ r ≡ onColumns (gOf word64) s ⌝ }
 {
-    let p = across(s, 0, 0, 0, 0);
+    let v = across(s, 3, 3, 3, 3);
     let q = across(s, 1, 1, 1, 1);
     let u = across(s, 2, 2, 2, 2);
-    let v = across(s, 3, 3, 3, 3);
+    let p = across(s, 0, 0, 0, 0);
     columns(p, q, u, v)
 }
 
 fn diagonal_step(s: [[u64; 4]; 4]) -> [[u64; 4]; 4]
     ensures { λ r. ⌜ r ≡ onDiagonals (gOf word64) s ⌝ }
 {
-    let q = across(s, 1, 2, 3, 0);
+    let v = across(s, 3, 0, 1, 2);
     let u = across(s, 2, 3, 0, 1);
     let p = across(s, 0, 1, 2, 3);
-    let v = across(s, 3, 0, 1, 2);
+    let q = across(s, 1, 2, 3, 0);
     diagonals(p, q, u, v)
 }
 

@@ -17,8 +17,8 @@ returns c =
     let s1 = s2 .before in
     let x = s1 .before .args in
     by-turns word64 (x .a) (x .b) (x .c) (x .d)
-    (s1 .h .ensures) (s2 .turned .ensures) (s3 .h2 .ensures) (s4 .turned2 .ensures)
-    (s5 .h3 .ensures) (s6 .turned3 .ensures) (s7 .h4 .ensures) (c .turned4 .ensures)
+    (s2 .h .ensures) (s1 .turned .ensures) (s4 .h2 .ensures) (s3 .turned2 .ensures)
+    (s6 .h3 .ensures) (s5 .turned3 .ensures) (c .h4 .ensures) (s7 .turned4 .ensures)
 
 pub g-spec : {M : Type 1} → statement M
 g-spec =
