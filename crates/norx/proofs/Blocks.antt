@@ -3,7 +3,7 @@
 use mathlib.Core.Path.{_≡_, refl, sym, ap, ap₂, _∙_}
 use mathlib.Core.Bool.{Bool, cond}
 use mathlib.Core.Logic.{⊎-elim}
-use mathlib.Core.List.{List, [], _∷_, _++_, append-nil}
+use mathlib.Core.List.{List, _++_, append-nil}
 use Prim.Native.Nat.{ℕ, zero, suc, _+_, _-_, _*_, _/_, _<_, _≤_}
 use native.Mathlib.Nat.{suc-mul, le-refl, le-of-lt, eq-zero-or-pos}
 use native.Mathlib.Numerals.{add-one}
@@ -11,7 +11,7 @@ use native.Mathlib.Omega.{arith}
 use borrow.Author.Tests.{lt-ltb, le-ltb}
 use lib.Dec.{ltb, lit<}
 use lib.ListN.{length, take, drop, length-append, length-drop}
-use lib.Seq.{take-all, length-take-le, take-append-le, drop-append-le, drop-drop, drop-length}
+use lib.Seq.{take-all, length-take-le, take-append-le, drop-append-le, drop-length}
 use Rattle.norx.specs.Norx.{Width, word32, word64, rate, run, State, blockCount, block, padded, xorBlock, rateOf, entered, afterBlocks, afterPart, bodyMark, cipherBlocks, ciphertext}
 use Rattle.norx.specs.Turns.{put}
 use Rattle.norx.proofs.Slices.{empty, blocks-le, left-lt, put-next}

@@ -3,15 +3,15 @@
 use mathlib.Core.Path.{_≡_, refl, sym, ap, ap₂, _∙_}
 use mathlib.Core.Logic.{_⊎_, inl, inr, ⊎-elim}
 use mathlib.Core.List.{List, [], _∷_, _++_}
-use Prim.Native.Nat.{ℕ, zero, suc, _+_, _-_, _*_, _/_, _%_, _<_, _≤_}
+use Prim.Native.Nat.{ℕ, suc, _+_, _-_, _*_, _%_, _<_, _≤_}
 use native.Mathlib.Nat.{mod-eq-of-lt, mod-mod, mul-mod-left, pos-of-ne-zero, le-of-lt, le-of-eq}
 use native.Mathlib.Omega.{arith}
-use lib.ListN.{length, take, drop, length-drop, length-append, take-append-drop}
-use lib.Seq.{take-all, take-at, drop-at, length-take-le}
+use lib.ListN.{length, take, drop, length-drop, take-append-drop}
+use lib.Seq.{take-all, drop-at, length-take-le}
 use Rattle.norx.specs.Norx.{Width, rate, State, xors, xorBlock, rateOf, entered, afterBlocks, bodyMark, messageBlocks}
-use Rattle.norx.specs.Stream.{placed, begun, fed, unfed}
+use Rattle.norx.specs.Stream.{placed, fed, unfed}
 use Rattle.norx.proofs.Xor.{drop-xors, take-xors}
-use Rattle.norx.proofs.Bytes.{Bytes, zeros, length-zeros, bytes-take, bytes-drop}
+use Rattle.norx.proofs.Bytes.{Bytes, zeros, length-zeros, bytes-take}
 use Rattle.norx.proofs.Slices.{blocks-le}
 use Rattle.norx.proofs.Overlay.{block-same, same-zeros, rate-add-short, bytes-placed, length-placed, recovered-of}
 use Rattle.norx.proofs.Blocks.{rate-pos, fulls, left}

@@ -1,8 +1,7 @@
 -- u8 to u15 as a table: the two rounds of 0, 1, ..., 15 are computed, once at each width.
 -- Assumes nothing.
 use mathlib.Core.Path.{_≡_, refl}
-use mathlib.Core.List.{List, [], _∷_}
-use Prim.Native.Nat.{ℕ}
+use mathlib.Core.List.{[], _∷_}
 use Rattle.norx.specs.Norx.{word32, word64, row, rowAt, ror, H, G, onColumns, onDiagonals, F, P, constants}
 
 pub upper32 : row 0xa3d8d930 0x3fa8b72c 0xed84eb49 0xedca4787 ∷ row 0x335463eb 0xf994220b 0xbe0bf5c9 0xd7c49104 ∷ []

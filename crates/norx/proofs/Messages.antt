@@ -1,14 +1,13 @@
 -- The message of a ciphertext by its full blocks and the bytes left, as code recovers it, and the state that takes it in.
 -- Assumes nothing.
-use mathlib.Core.Path.{_≡_, refl, sym, ap, ap₂, _∙_}
+use mathlib.Core.Path.{_≡_, sym, ap, ap₂, _∙_}
 use mathlib.Core.Logic.{⊎-elim}
-use mathlib.Core.List.{List, [], _∷_, _++_, append-nil}
+use mathlib.Core.List.{List, _++_, append-nil}
 use Prim.Native.Nat.{ℕ, zero, suc, _+_, _-_, _*_, _/_, _<_, _≤_}
 use native.Mathlib.Nat.{suc-mul, eq-zero-or-pos}
-use native.Mathlib.Numerals.{add-one}
 use native.Mathlib.Omega.{arith}
 use lib.ListN.{length, take, drop, length-append, length-drop}
-use lib.Seq.{take-all, length-take-le, take-length, drop-at, drop-drop, drop-length}
+use lib.Seq.{take-all, length-take-le, drop-at, drop-length}
 use Rattle.norx.specs.Norx.{Width, rate, run, xors, State, blockCount, padded, xorBlock, rateOf, entered, afterBlocks, afterPart, bodyMark, messageBlocks, message}
 use Rattle.norx.proofs.Xor.{length-xors}
 use Rattle.norx.specs.Turns.{put}

@@ -4,18 +4,17 @@
 use mathlib.Core.Path.{_≡_, refl, sym, ap, ap₂, _∙_}
 use mathlib.Core.Bool.{Bool, true, false, _&&_, cond}
 use mathlib.Core.List.{List, [], _∷_, _++_}
-use mathlib.Core.Option.{Option, none, some}
-use Prim.Native.Nat.{ℕ, zero, suc, _+_, _-_, _*_, _/_, _<_, _≤_}
+use mathlib.Core.Option.{none, some}
+use Prim.Native.Nat.{ℕ, _+_, _-_, _/_, _≤_}
 use native.Mathlib.Omega.{arith}
 use borrow.Author.Tests.{eq-eqb, eqb-true}
 use lib.Dec.{eqb}
-use lib.ListN.{length, take, drop, length-append, take-append-drop}
+use lib.ListN.{length, length-append, take-append-drop}
 use lib.Seq.{length-take-le, take-at, drop-at}
 use Rattle.norx.specs.Norx.{Width, rowBytes, rowOf, rowAt, State, bytesOfRow, finished, ciphertext, message, afterPart, tagOf, beforeBody, tag, sealed, same, bodyPart, tagPart, recovered, opened, bodyMark, trailerMark}
 use Rattle.norx.proofs.Bytes.{Bytes, bytes-take}
 use Rattle.norx.proofs.Words.{length-bytesOfRow}
 use Rattle.norx.proofs.Blocks.{length-ciphertext}
-use Rattle.norx.proofs.Messages.{length-message}
 use Rattle.norx.proofs.Text.{fed-text}
 use Rattle.norx.specs.Stream.{fedText, unfed}
 use Rattle.norx.proofs.Unseal.{unfed-fedText, fedText-unfed, bytes-fedText, bytes-unfed, unfed-message}

@@ -3,10 +3,10 @@
 use mathlib.Core.Path.{_≡_, refl, sym, ap, ap₂, _∙_, subst}
 use mathlib.Core.List.{List, [], _∷_, _++_}
 use Prim.Native.Nat.{ℕ, zero, suc, _+_, _-_, _*_, _<_, _≤_}
-use native.Mathlib.Nat.{zero-lt-suc, le-refl}
+use native.Mathlib.Nat.{le-refl}
 use native.Mathlib.Omega.{arith}
 use lib.Bits.{bitXor, xor-zero-r}
-use lib.ListN.{length, getD, take, drop, replicate, length-append, length-set, replicate-append-replicate}
+use lib.ListN.{length, getD, take, drop, length-append, length-set, replicate-append-replicate}
 use lib.Seq.{take-nil, take-length, getD-drop, take-set-le, take-at}
 use Rattle.norx.specs.Norx.{Width, wordBytes, rowBytes, rate, wordOf, run, xors, State, wordAt, rowAt, rowOf, xorRow, xorBlock, rateOf, xorAt, padded}
 use Rattle.norx.specs.Stream.{placed}

@@ -1,12 +1,12 @@
 -- What a block xored into a state does to the bytes of s0..s11.
 -- Assumes nothing.
-use mathlib.Core.Path.{_≡_, refl, sym, ap, ap₂, _∙_}
-use mathlib.Core.List.{List, [], _∷_, _++_}
-use Prim.Native.Nat.{ℕ, zero, suc, _+_, _-_, _*_, _<_, _≤_}
+use mathlib.Core.Path.{_≡_, sym, ap, _∙_}
+use mathlib.Core.List.{List, _++_}
+use Prim.Native.Nat.{ℕ, zero, suc, _+_, _-_, _*_, _≤_}
 use native.Mathlib.Nat.{suc-mul, zero-mul}
 use native.Mathlib.Omega.{arith}
 use lib.Bits.{bitXor}
-use lib.ListN.{length, getD, take, drop, length-drop}
+use lib.ListN.{length, drop, length-drop}
 use lib.Seq.{take-all, drop-drop, length-take-le}
 use Rattle.norx.specs.Norx.{Width, wordBytes, rowBytes, rate, wordOf, bytesOf, run, xors, State, wordAt, rowAt, rowOf, bytesOfRow, xorRow, xorBlock, rateOf}
 use Rattle.norx.proofs.Xor.{xors-cut}

@@ -1,13 +1,13 @@
 -- A full block of ciphertext in the place of s0..s11 is the recovered message taken in.
 -- Assumes nothing.
-use mathlib.Core.Path.{_≡_, refl, sym, ap, _∙_}
+use mathlib.Core.Path.{_≡_, sym, ap, _∙_}
 use mathlib.Core.List.{List, [], _∷_, _++_}
-use Prim.Native.Nat.{ℕ, zero, suc, _+_, _*_, _^_, _<_, _≤_}
+use Prim.Native.Nat.{ℕ, suc, _+_, _*_, _^_, _<_}
 use native.Mathlib.Nat.{zero-mul, suc-mul, add-comm, le-of-eq}
 use lib.Bits.{bitXor}
 use lib.ListN.{length, take, drop}
 use lib.Seq.{take-at, drop-at, drop-drop, take-all}
-use Rattle.norx.specs.Norx.{Width, word32, word64, bits, wordBytes, rowBytes, wordOf, bytesOf, run, xors, State, rows, wordAt, rowAt, rowOf, bytesOfRow, xorRow, xorBlock, rateOf}
+use Rattle.norx.specs.Norx.{Width, word32, word64, wordBytes, rowBytes, wordOf, bytesOf, run, xors, State, rows, rowAt, rowOf, bytesOfRow, xorRow, xorBlock, rateOf}
 use Rattle.norx.proofs.Xor.{twice-xor, run-xors}
 use Rattle.norx.proofs.Bytes.{Bytes, bytes-run, bytes-bytesOf}
 use Rattle.norx.proofs.Words.{length-bytesOf, length-bytesOfRow, word-bytes, word-xors}

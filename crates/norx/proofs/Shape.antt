@@ -1,11 +1,15 @@
--- Every state that NORX makes has four rows of four words.
+-- Every state that NORX makes has four rows of four words; and what zeros do to such a state.
 -- Assumes nothing.
+use mathlib.Core.Path.{_≡_}
 use mathlib.Core.Bool.{Bool, true, false, cond}
 use mathlib.Core.List.{List, [], _∷_}
 use Prim.Native.Nat.{ℕ, zero, suc, _%_}
+use lib.Bits.{xor-zero-r}
 use lib.Dec.{eqb}
 use Rattle.norx.specs.Norx.{Width, rate, State, row, rows, rowOf, xorRow, F, P, onDiagonals, constants, keyed, start, xorBlock, marked, entered}
+use Rattle.norx.specs.Turns.{taken}
 use Rattle.norx.specs.Stream.{begun, fed, ended}
+use Rattle.norx.proofs.Owned.{Whole, four, four-rows}
 
 pub data Shaped : State → Type 0 where
   shaped : {a b c d e f g h i j k m n o p q : ℕ} → Shaped (rows (row a b c d) (row e f g h) (row i j k m) (row n o p q))
@@ -53,3 +57,19 @@ module _ (w : Width) (l m : ℕ) where
   unfolding ended
   shaped-ended s zero h = h
   shaped-ended s (suc n) h = shaped-xorBlock w (begun w l m s (suc n)) _ (shaped-begun s (suc n) h)
+
+  pub shaped-taken : (opening : Bool) (s : State) (d : List ℕ) (i : ℕ) → Shaped s → Shaped (taken w l m opening s d i)
+  unfolding taken
+  shaped-taken opening s d zero h = h
+  shaped-taken true s d (suc i) h = shaped-xorBlock w (entered w l m (taken w l m true s d i)) _ (shaped-entered _ (shaped-taken true s d i h))
+  shaped-taken false s d (suc i) h = shaped-xorBlock w (entered w l m (taken w l m false s d i)) _ (shaped-entered _ (shaped-taken false s d i h))
+
+-- a state that code holds
+pub shaped-whole : (w : Width) (s : State) → Whole w s → Shaped s
+shaped-whole w s (four-rows (four h0 h1 h2 h3) (four i0 i1 i2 i3) (four j0 j1 j2 j3) (four k0 k1 k2 k3)) = shaped
+
+-- a key of zeros leaves a state as it is
+pub unkeyed : (s : State) → Shaped s → keyed (row 0 0 0 0) s ≡ s
+unfolding keyed xorRow
+unkeyed s (shaped {a} {b} {c} {d} {e} {f} {g} {h} {i} {j} {k} {m} {n} {o} {p} {q}) =
+    λ z. rows (row a b c d) (row e f g h) (row i j k m) (row (xor-zero-r n z) (xor-zero-r o z) (xor-zero-r p z) (xor-zero-r q z))

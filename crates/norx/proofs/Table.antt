@@ -1,8 +1,8 @@
 -- The worked numbers of the requirements that are marked (P), as one table.
 -- Assumes nothing.
 use mathlib.Core.Path.{_≡_, refl}
-use mathlib.Core.List.{List, [], _∷_, _++_, map}
-use Prim.Native.Nat.{ℕ, _^_}
+use mathlib.Core.List.{[], _∷_, _++_, map}
+use Prim.Native.Nat.{_^_}
 use lib.ListN.{drop, replicate}
 use Rattle.norx.specs.Norx.{word32, word64, bytesOf, ror, H, G, padded, blockCount}
 use Rattle.norx.specs.Front.{front}

@@ -3,7 +3,7 @@
 use mathlib.Core.Path.{_≡_, refl, sym, ap, ap₂, _∙_}
 use mathlib.Core.Bool.{Bool, true, false, cond}
 use mathlib.Core.List.{List, [], _∷_, _++_}
-use Prim.Native.Nat.{ℕ, zero, suc, _+_, _-_, _*_, _<_, _≤_}
+use Prim.Native.Nat.{ℕ, zero, suc, _+_, _-_, _*_, _≤_}
 use native.Mathlib.Nat.{zero-mul, suc-mul}
 use native.Mathlib.Numerals.{add-one}
 use native.Mathlib.Omega.{arith}
@@ -18,7 +18,7 @@ use Rattle.norx.proofs.Words.{length-rateOf}
 use Rattle.norx.proofs.Rate.{length-run, rate-add}
 use Rattle.norx.specs.Turns.{put, taken, shown}
 use Rattle.norx.proofs.Slices.{put-next}
-use Rattle.norx.proofs.Owned.{Words, four, Whole, four-rows}
+use Rattle.norx.proofs.Owned.{four, Whole, four-rows}
 use Rattle.norx.proofs.Blocks.{after-suc, cipher-suc}
 use Rattle.norx.proofs.Messages.{readied, message-suc, state-suc}
 
@@ -37,24 +37,21 @@ module _ (w : Width) (l m : ℕ) (opening : Bool) (s : State) (d : List ℕ) whe
   shown-none false o = refl
 
   -- one block more
-  module _ (i : ℕ) {t e x : State} {b : List ℕ} (ht : t ≡ taken w l m opening s d i) (he : e ≡ entered w l m t) (hb : b ≡ run (rate w) i d) (hx : x ≡ xorBlock w e b) where
+  module _ (i : ℕ) {t e : State} {b : List ℕ} (ht : t ≡ taken w l m opening s d i) (he : e ≡ entered w l m t) (hb : b ≡ run (rate w) i d) where
     ready : e ≡ entered w l m (taken w l m opening s d i)
     ready = he ∙ ap (entered w l m) ht
 
-    pub taken-next : {c : List ℕ} {u : State} → c ≡ run (rate w) i d → u ≡ cond opening (xorBlock w e (xors (rateOf w e) c)) x → u ≡ taken w l m opening s d (i + 1)
+    pub taken-next : {u : State} → u ≡ cond opening (xorBlock w e (xors (rateOf w e) b)) (xorBlock w e b) → u ≡ taken w l m opening s d (i + 1)
     unfolding taken
-    taken-next hc hu =
-        rw add-one
-        (hu ∙ ap (cond opening (xorBlock w e (xors (rateOf w e) _))) hx
-        ∙ (λ k. cond opening (xorBlock w (ready k) (xors (rateOf w (ready k)) (hc k))) (xorBlock w (ready k) (hb k))))
+    taken-next hu = rw add-one (hu ∙ (λ k. cond opening (xorBlock w (ready k) (xors (rateOf w (ready k)) (hb k))) (xorBlock w (ready k) (hb k))))
 
     pub shown-next : (writing : Bool) (o : List ℕ) {out new : List ℕ} → out ≡ cond writing (shown w l m opening s d i ++ drop (i * rate w) o) o
-        → new ≡ cond writing (put out (i * rate w) (rateOf w x) (rate w)) out
+        → new ≡ cond writing (put out (i * rate w) (rateOf w (xorBlock w e b)) (rate w)) out
         → new ≡ cond writing (shown w l m opening s d (i + 1) ++ drop ((i + 1) * rate w) o) o
     unfolding shown
     shown-next true o ho hn =
         let y : List ℕ = rateOf w (xorBlock w (entered w l m (taken w l m opening s d i)) (run (rate w) i d)) in
-        let hy : rateOf w x ≡ y = ap (rateOf w) (hx ∙ ap₂ (λ (z : State) (p : List ℕ). xorBlock w z p) ready hb) in
+        let hy : rateOf w (xorBlock w e b) ≡ y = ap₂ (λ (z : State) (p : List ℕ). rateOf w (xorBlock w z p)) ready hb in
         rw add-one
         (hn ∙ (λ k. put (ho k) (i * rate w) (hy k) (rate w))
         ∙ put-next (shown w l m opening s d i) (drop (i * rate w) o) y (i * rate w) (rate w) (length-shown i)

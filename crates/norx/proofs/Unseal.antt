@@ -1,24 +1,23 @@
 -- Recovering undoes sealing, byte by byte and so for pieces cut anywhere; and the message byte by byte is the message by blocks.
 -- Assumes nothing.
 use mathlib.Core.Path.{_≡_, refl, sym, ap, ap₂, _∙_}
-use mathlib.Core.Logic.{⊎-elim}
 use mathlib.Core.List.{List, [], _∷_, _++_}
-use Prim.Native.Nat.{ℕ, zero, suc, _+_, _-_, _*_, _/_, _%_, _<_, _≤_}
-use native.Mathlib.Nat.{mod-lt, not-suc-le-zero, le-refl, le-of-eq, add-zero, zero-mul, suc-mul, suc-add, add-suc, mul-mod-left, eq-zero-or-pos}
+use Prim.Native.Nat.{ℕ, zero, suc, _+_, _-_, _*_, _%_, _<_, _≤_}
+use native.Mathlib.Nat.{mod-lt, le-of-eq, add-zero, zero-mul, suc-mul, suc-add, add-suc, mul-mod-left}
 use native.Mathlib.Omega.{arith}
 use lib.Bits.{bitXor, xor-lt}
-use lib.ListN.{length, getD, take, drop, length-drop, take-append-drop}
-use lib.Seq.{take-add, take-all, take-length, length-take-le, drop-cons}
-use Rattle.norx.specs.Norx.{Width, rate, run, xors, State, xorBlock, rateOf, entered, afterBlocks, bodyMark, messageBlocks, message}
+use lib.ListN.{length, getD, take, drop, take-append-drop}
+use lib.Seq.{take-add, take-all, length-take-le, drop-cons}
+use Rattle.norx.specs.Norx.{Width, rate, run, xors, State, xorBlock, rateOf, afterBlocks, bodyMark, messageBlocks, message}
 use Rattle.norx.specs.Stream.{placed, begun, fed, fedText, unfed}
 use Rattle.norx.proofs.Xor.{twice-xor, getD-xors, drop-xors, xors-nil}
 use Rattle.norx.proofs.Bytes.{Bytes, bytes-nil, bytes-cons, bytes-take, bytes-drop, bytes-rate, bytes-run}
 use Rattle.norx.proofs.Words.{length-rateOf}
-use Rattle.norx.proofs.Slices.{empty, blocks-le}
+use Rattle.norx.proofs.Slices.{blocks-le}
 use Rattle.norx.proofs.Rate.{length-run}
 use Rattle.norx.proofs.Overlay.{rate-add-short, bytes-placed, length-placed}
 use Rattle.norx.proofs.Blocks.{rate-pos, fulls, left, left-short}
-use Rattle.norx.proofs.Messages.{readied, lastBytes, length-messageBlocks, message-suc, message-is}
+use Rattle.norx.proofs.Messages.{readied, length-messageBlocks, message-is}
 use Rattle.norx.proofs.Stream.{mod-suc, begun-start, begun-within, fed-fulls}
 
 one : (b : ℕ) → b < 256 → Bytes (b ∷ [])

@@ -1,14 +1,14 @@
 -- Bytes and words go over into each other.
 -- Assumes nothing.
-use mathlib.Core.Path.{_≡_, refl, sym, ap, ap₂, _∙_}
-use mathlib.Core.List.{List, [], _∷_, _++_}
-use Prim.Native.Nat.{ℕ, zero, suc, _+_, _*_, _/_, _%_, _^_, _<_, _≤_}
+use mathlib.Core.Path.{_≡_, refl, sym, ap, _∙_}
+use mathlib.Core.List.{List, [], _∷_}
+use Prim.Native.Nat.{ℕ, zero, suc, _+_, _*_, _/_, _%_, _^_, _<_}
 use native.Mathlib.Nat.{zero-lt-suc, pow-suc, div-lt-iff-lt-mul}
 use native.Mathlib.Omega.{arith}
 use lib.Bits.{bitXor, xor-shr, xor-mod, xor-block, xor-zero-r}
-use lib.ListN.{length, getD, take, drop, length-append}
+use lib.ListN.{length, length-append}
 use lib.Pow.{high, low, split}
-use Rattle.norx.specs.Norx.{Width, wordBytes, wordOf, bytesOf, bytesOfRow, rateOf, rate, rowBytes, rowAt, xors}
+use Rattle.norx.specs.Norx.{Width, wordOf, bytesOf, bytesOfRow, rateOf, rate, rowBytes, xors}
 use Rattle.norx.proofs.Bytes.{Bytes}
 
 pub length-bytesOf : (k x : ℕ) → length (bytesOf k x) ≡ k

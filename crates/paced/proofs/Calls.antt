@@ -11,7 +11,7 @@ use lib.Seq.{take-at, drop-at, length-take-le}
 use Rattle.norx.specs.Turns.{put}
 use Rattle.norx.proofs.Slices.{tail}
 use Rattle.session.specs.Sessions.{Kind, startOf, closeOf, closeTag}
-use Rattle.session.proofs.Refused.{cond-false}
+use Rattle.answers.proofs.Tests.{cond-false}
 use Rattle.paced.specs.Paced.{sealedAll, wroteAll, checkedAll, begun, sealAnswerAt, sealOutAt, checkAnswerAt}
 
 -- an output once its first n bytes were lent and came back as y, and then the rest as z

@@ -15,9 +15,9 @@ use lib.Seq.{take-all, drop-drop, drop-at, length-take-le}
 use Rattle.norx.specs.Norx.{run}
 use Rattle.norx.specs.Turns.{put}
 use Rattle.norx.proofs.Slices.{tail, cut, put-next}
+use Rattle.answers.proofs.Tests.{either, cond-true, cond-false}
 use Rattle.places.specs.declared.Part.the-variants.{Body}
 use Rattle.session.specs.Sessions.{Kind, pieceOf, pieceOut}
-use Rattle.session.proofs.Refused.{either, cond-true, cond-false}
 use Rattle.paced.specs.Paced.{pieceEnd, offered, wrote}
 
 -- a piece ends with the text, or is full

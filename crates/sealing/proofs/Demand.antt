@@ -2,7 +2,7 @@
 -- text, and where no message does, the answer is 10 and the output zeros.
 -- Assumes nothing.
 use mathlib.Core.Path.{_≡_, refl, sym, ap, _∙_}
-use mathlib.Core.Bool.{Bool, true, false, cond}
+use mathlib.Core.Bool.{Bool, true, cond}
 use mathlib.Core.List.{List}
 use mathlib.Core.Option.{Option, none, some}
 use Prim.Native.Nat.{ℕ}
@@ -11,7 +11,6 @@ use lib.ListN.{length, replicate}
 use Rattle.norx.specs.Norx.{Width, tagBits, sealed, opened}
 use Rattle.norx.proofs.Bytes.{Bytes}
 use Rattle.norx.proofs.Opening.{open-sealed, sealed-opened, opened-bytes, refused-unsealed}
-use Rattle.answers.specs.declared.Answer.{Answer}
 use Rattle.answers.specs.declared.Answer.the-variants.{Done, TagDiffers}
 use Rattle.answers.specs.Answers.{doneOf}
 use Rattle.sealing.specs.Calls.{answerOf, outOf, sealAnswer, sealOut, checked, openAnswer, openOut}

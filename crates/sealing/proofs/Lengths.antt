@@ -1,26 +1,23 @@
 -- The lengths that are known where the checks of a call give no refusal.
 -- Assumes nothing.
-use mathlib.Core.Path.{_≡_, refl, sym, ap, _∙_}
-use mathlib.Core.Bool.{Bool, true, false, _&&_}
-use mathlib.Core.Logic.{_⊎_, inl, inr, ⊎-elim}
-use Prim.Native.Nat.{ℕ, _+_, _-_, _≤_, _<_}
+use mathlib.Core.Path.{_≡_, refl, sym, _∙_}
+use mathlib.Core.Bool.{true, _&&_}
+use mathlib.Core.Logic.{⊎-elim}
+use Prim.Native.Nat.{ℕ, _+_, _-_, _≤_}
 use native.Mathlib.Omega.{arith}
 use borrow.Author.Tests.{eqb-true, eqb-false, leb-true, eq-eqb, ne-eqb}
 use lib.Dec.{leb, eqb}
 use Rattle.answers.specs.declared.Answer.the-variants.{Done, KeyLength, RoundsNumber, TagLength, OverLimit, OutputLength}
-use Rattle.answers.specs.Answers.{doneOf, needOf}
+use Rattle.answers.specs.Answers.{doneOf}
+use Rattle.answers.proofs.Tests.{either}
 use Rattle.answers.proofs.Chain.{passed, both}
 use Rattle.sealing.specs.Calls.{roundsOk, within, sealChecks, openChecks}
 
 -- a sum, by a difference that does not wrap
-true-or-false : (b : Bool) → (b ≡ true) ⊎ (b ≡ false)
-true-or-false true = inl refl
-true-or-false false = inr refl
-
 pub sum-by-difference : (a b c : ℕ) → c ≤ a → eqb (a - c) b ≡ eqb a (b + c)
 sum-by-difference a b c h =
     ⊎-elim (λ e. let p = eqb-true (a - c) b e in e ∙ sym (eq-eqb a (b + c) (omega arith)))
-    (λ e. e ∙ sym (ne-eqb a (b + c) (λ q. eqb-false (a - c) b e (omega arith)))) (true-or-false (eqb (a - c) b))
+    (λ e. e ∙ sym (ne-eqb a (b + c) (λ q. eqb-false (a - c) b e (omega arith)))) (either (eqb (a - c) b))
 
 pub record Exact (row tag key nonce body text : ℕ) : Type 0 where
   pub key-long : key ≡ row

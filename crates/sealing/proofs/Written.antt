@@ -1,12 +1,11 @@
 -- What the calls that seal and open leave, put together, at every width.
 -- Assumes nothing.
 use mathlib.Core.Path.{_≡_, refl, sym, ap, ap₂, _∙_}
-use mathlib.Core.Bool.{Bool, true, false, cond}
-use mathlib.Core.List.{List, [], _++_, append-nil}
-use mathlib.Core.Option.{Option, none, some}
-use Prim.Native.Nat.{ℕ, _+_, _-_, _/_, _≤_}
+use mathlib.Core.Bool.{Bool, cond}
+use mathlib.Core.List.{List, _++_, append-nil}
+use mathlib.Core.Option.{none, some}
+use Prim.Native.Nat.{ℕ, _+_, _-_, _≤_}
 use native.Mathlib.Omega.{arith}
-use borrow.Author.Tests.{eq-eqb}
 use lib.Dec.{eqb, lit≤}
 use lib.ListN.{length, take, drop, replicate, length-append, length-drop}
 use lib.Seq.{length-take-le, drop-at, drop-length}
@@ -15,14 +14,12 @@ use Rattle.norx.specs.Turns.{put}
 use Rattle.norx.proofs.Slices.{put-next, copied, tail}
 use Rattle.norx.proofs.Blocks.{length-ciphertext}
 use Rattle.norx.proofs.Opening.{length-tag}
+use Rattle.answers.proofs.Tests.{cond-equal}
 use Rattle.sealing.specs.Calls.{tagBytes}
 
 pub tag-fits : (w : Width) → tagBytes w ≤ rowBytes w
 tag-fits word32 = lit≤ tt
 tag-fits word64 = lit≤ tt
-
-known : {A : Type 0} {z : A} (x y : A) (m n : ℕ) → m ≡ n → z ≡ cond (eqb m n) x y → z ≡ x
-known x y m n h e = e ∙ ap (λ (b : Bool). cond b x y) (eq-eqb m n h)
 
 -- ciphertext and then tag, each at its place of the output o
 laid : (o c g : List ℕ) {y z e : List ℕ} → length o ≡ length c + length g → y ≡ c → e ≡ g
@@ -45,7 +42,7 @@ module _ (w : Width) (l : ℕ) (key nonce header text trailer : List ℕ) (key-l
   module _ {k : List ℕ} {s : State} (hk : k ≡ cond (eqb (length key) (rowBytes w)) (rowOf w key) (replicate 4 0))
       (hs : s ≡ afterPart w l headerMark (start w l (tagBits w) k (rowOf w nonce)) header) where
     key-is : k ≡ rowOf w key
-    key-is = known (rowOf w key) (replicate 4 0) (length key) (rowBytes w) key-long hk
+    key-is = cond-equal (rowOf w key) (replicate 4 0) (length key) (rowBytes w) key-long hk
 
     state-is : s ≡ beforeBody w l (tagBits w) key nonce header
     unfolding beforeBody
@@ -66,8 +63,8 @@ module _ (w : Width) (l : ℕ) (key nonce header text trailer : List ℕ) (key-l
         let c : List ℕ = ciphertext w l b text in
         let lc : length c ≡ length text = length-ciphertext w l b text in
         let u′ : u ≡ afterPart w l bodyMark b text =
-        known (afterPart w l bodyMark s text) s (length p) (length text) hp hu ∙ ap (λ (x : State). afterPart w l bodyMark x text) state-is in
-        let y′ : y ≡ c = known (ciphertext w l s text) p (length p) (length text) hp hy ∙ ap (λ (x : State). ciphertext w l x text) state-is in
+        cond-equal (afterPart w l bodyMark s text) s (length p) (length text) hp hu ∙ ap (λ (x : State). afterPart w l bodyMark x text) state-is in
+        let y′ : y ≡ c = cond-equal (ciphertext w l s text) p (length p) (length text) hp hy ∙ ap (λ (x : State). ciphertext w l x text) state-is in
         let e′ : e ≡ tag w l (tagBits w) key nonce header text trailer =
         he ∙ ap₂ (λ (x : List ℕ) (y : State). tagOf w l (tagBits w) x y) key-is (hv ∙ ap (λ (x : State). afterPart w l trailerMark x trailer) u′) in
         let le : length (tag w l (tagBits w) key nonce header text trailer) ≡ tagBytes w = length-tag w l (tagBits w) (tag-fits w) key nonce header trailer text in
@@ -90,9 +87,9 @@ module _ (w : Width) (l : ℕ) (key nonce header text trailer : List ℕ) (key-l
         let body : c ≡ take (length text - tagBytes w) text = hc ∙ ap (λ (k : ℕ). take k text) n0 in
         let lc : length o ≡ length c = sym (ap length body ∙ length-take-le (length text - tagBytes w) text (omega arith) ∙ n) in
         let m : message w l s c ≡ recovered w l (tagBits w) key nonce header text = ap₂ (λ (x : State) (d : List ℕ). message w l x d) state-is body in
-        let y′ : y ≡ recovered w l (tagBits w) key nonce header text = known (message w l s c) o (length o) (length c) lc hy ∙ m in
+        let y′ : y ≡ recovered w l (tagBits w) key nonce header text = cond-equal (message w l s c) o (length o) (length c) lc hy ∙ m in
         let u′ : u ≡ afterPart w l bodyMark s′ (recovered w l (tagBits w) key nonce header text) =
-        known (afterPart w l bodyMark s (message w l s c)) s (length o) (length c) lc hu ∙ ap₂ (λ (x : State) (d : List ℕ). afterPart w l bodyMark x d) state-is m in
+        cond-equal (afterPart w l bodyMark s (message w l s c)) s (length o) (length c) lc hu ∙ ap₂ (λ (x : State) (d : List ℕ). afterPart w l bodyMark x d) state-is m in
         let e′ : e ≡ tag w l (tagBits w) key nonce header (recovered w l (tagBits w) key nonce header text) trailer =
         he ∙ ap₂ (λ (x : List ℕ) (y : State). tagOf w l (tagBits w) x y) key-is (hv ∙ ap (λ (x : State). afterPart w l trailerMark x trailer) u′) in
         let b′ : b ≡ same (drop (length text - tagBytes w) text) (tag w l (tagBits w) key nonce header (recovered w l (tagBits w) key nonce header text) trailer) =

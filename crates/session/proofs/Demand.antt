@@ -4,33 +4,32 @@ use mathlib.Core.Path.{_≡_, refl, sym, ap, ap₂, _∙_}
 use mathlib.Core.Bool.{Bool, true, false, cond}
 use mathlib.Core.Logic.{⊎-elim}
 use mathlib.Core.List.{List, [], _∷_, _++_}
-use mathlib.Core.Option.{Option, none, some}
+use mathlib.Core.Option.{none, some}
 use Prim.Native.Nat.{ℕ, _+_, _-_, _/_}
 use native.Mathlib.Omega.{arith}
 use borrow.Author.Tests.{le-leb}
-use lib.Dec.{leb}
-use lib.ListN.{length, take, drop, length-append}
+use lib.ListN.{length, length-append}
 use lib.Seq.{take-at, drop-at}
 use Rattle.norx.specs.Norx.{State, rowBytes, rowOf, ciphertext, message, tagOf, beforeBody, tag, sealed, same, bodyPart, tagPart, recovered, opened}
 use Rattle.norx.specs.Front.{front}
-use Rattle.norx.specs.Stream.{fedText, unfed}
+use Rattle.norx.specs.Stream.{fedText}
 use Rattle.norx.proofs.Bytes.{Bytes, bytes-nil, bytes-append}
-use Rattle.answers.specs.declared.Answer.{Answer}
 use Rattle.answers.specs.declared.Answer.the-variants.{Done, TagDiffers}
 use Rattle.answers.specs.Answers.{doneOf, needOf}
-use Rattle.sealing.specs.Calls.{roundsOk, answerOf}
+use Rattle.sealing.specs.Calls.{answerOf}
+use Rattle.answers.proofs.Tests.{either, cond-true, cond-false}
 use Rattle.places.specs.declared.Part.{Part}
 use Rattle.places.specs.declared.Part.the-variants.{Note, Body, Trailer}
 use Rattle.places.specs.declared.Standing.{Standing}
 use Rattle.places.specs.declared.Standing.the-variants.{Closed, Open}
 use Rattle.places.specs.declared.Place.{Place}
-use Rattle.places.specs.Places.{countOf, limitOf, freshPlace, soundAt, soundOf, startAnswer, closeAnswer}
+use Rattle.places.specs.Places.{soundAt, soundOf, startAnswer, closeAnswer}
 use Rattle.places.proofs.Accepts.{startable, moved-sound, sound-closes}
 use Rattle.session.specs.Sessions.{Way, sealing, checking, brought, readied, verdictOf, Kind, closedOf, stateOf, freshOf, startOf, ownTag, closeAnswerOf, closeOf, closeTag}
-use Rattle.session.specs.Offered.{Piece, isTaken, afterPiece, afterAll, accepted, wroteAll, only, joined, lastPart, placeIn, afterNote, inTrailer, stateIn, held, heldBy}
+use Rattle.session.specs.Offered.{Piece, isTaken, afterPiece, afterAll, accepted, wroteAll, only, joined, lastPart, placeIn, afterNote, held, heldBy}
 use Rattle.session.specs.Promises.{AreBytes, OneSession, Alike, OneSealing, OneOpening}
 use Rattle.session.proofs.Joining.{moved-place}
-use Rattle.session.proofs.Refused.{Lawful, either, cond-true, cond-false}
+use Rattle.session.proofs.Refused.{Lawful}
 use Rattle.session.proofs.Held.{place-held, state-held, accepted-held, all-kept, fresh-held, session-held}
 use Rattle.session.proofs.Wrote.{cipher, all-wrote}
 use Rattle.session.proofs.Whole.{closing-whole, tag-whole, text-whole, message-whole}
@@ -160,9 +159,6 @@ module _ (K : Kind) (L : Lawful K) (key nonce : List ℕ) (l r : ℕ) where
           → closeOf K (afterAll K s₀ qs) r given ≡ K .step (verdictOf (K .way) given (ownTag K (held K key nonce l r part n b t))) (closedOf K)
       unfolding closeOf
       close-is given h = rw (session-is qs) (cond-true _ _ _ (ap doneOf (closes given h)))
-
-      pub closes-session : (given : List ℕ) → length given ≡ K .tagBits / 8 → K .next (closeOf K (afterAll K s₀ qs) r given) ≡ closedOf K
-      closes-session given h = ap (λ (x : K .Step). K .next x) (close-is given h) ∙ L .stepped _ _
 
       -- ---- one sealing
 

@@ -1,6 +1,6 @@
 -- For any list of offered pieces: the session is the one that is held with the accepted pieces joined.
 -- Assumes nothing.
-use mathlib.Core.Path.{_≡_, refl, sym, ap, ap₂, _∙_}
+use mathlib.Core.Path.{_≡_, sym, ap, ap₂, _∙_}
 use mathlib.Core.Bool.{true, false}
 use mathlib.Core.Logic.{⊎-elim}
 use mathlib.Core.List.{List, [], _∷_, _++_, append-assoc, append-nil}
@@ -10,6 +10,7 @@ use Rattle.norx.specs.Norx.{State, rowOf, headerMark, start}
 use Rattle.norx.specs.Front.{front}
 use Rattle.norx.specs.Stream.{fed}
 use Rattle.answers.specs.Answers.{doneOf}
+use Rattle.answers.proofs.Tests.{either, cond-true, cond-false}
 use Rattle.places.specs.declared.Part.{Part}
 use Rattle.places.specs.declared.Part.the-variants.{Note, Body, Trailer}
 use Rattle.places.specs.declared.Place.{Place}
@@ -17,7 +18,7 @@ use Rattle.places.specs.Places.{freshPlace, pieceAnswer, moved, Accepted}
 use Rattle.places.proofs.Accepts.{accepted as accepts}
 use Rattle.session.specs.Sessions.{rowsOf, flatOf, takenAt, exactOf, Kind, stateOf, freshOf, pieceAnswerOf, takenOf, pieceOf}
 use Rattle.session.specs.Offered.{Piece, isTaken, afterPiece, afterAll, accepted, only, joined, lastPart, placeIn, stateIn, held, heldBy}
-use Rattle.session.proofs.Refused.{Lawful, either, cond-true, cond-false, answerTo, taken-answer, refused-session}
+use Rattle.session.proofs.Refused.{Lawful, answerTo, taken-answer, refused-session}
 use Rattle.session.proofs.Flat.{rows-flat, shaped-state}
 use Rattle.session.proofs.Joining.{moved-place, moved-state}
 

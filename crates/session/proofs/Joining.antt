@@ -1,9 +1,9 @@
 -- One more accepted piece: the session that is held with the joined parts goes over into the one that is held with this piece joined to them.
 -- Assumes nothing.
-use mathlib.Core.Path.{_≡_, refl, sym, ap, ap₂, _∙_}
-use mathlib.Core.Bool.{Bool, true, false, _&&_, false≢true}
+use mathlib.Core.Path.{_≡_, refl, sym, ap, _∙_}
+use mathlib.Core.Bool.{true, false, _&&_, false≢true}
 use mathlib.Core.List.{List, [], _∷_, _++_, append-assoc, append-nil}
-use Prim.Native.Nat.{ℕ, suc, _+_, _≤_}
+use Prim.Native.Nat.{ℕ, _+_}
 use native.Mathlib.Nat.{zero-add}
 use native.Mathlib.Omega.{arith}
 use borrow.Author.Tests.{eqb-true}
@@ -20,11 +20,9 @@ use Rattle.answers.proofs.Chain.{both}
 use Rattle.sealing.specs.Calls.{roundsOk}
 use Rattle.places.specs.declared.Part.{Part}
 use Rattle.places.specs.declared.Part.the-variants.{Note, Body, Trailer}
-use Rattle.places.specs.declared.Standing.the-variants.{Open}
-use Rattle.places.specs.declared.Place.{Place}
 use Rattle.places.specs.Places.{rankOf, moved, withinOf, unreachedOf, soundOf}
-use Rattle.session.specs.Sessions.{Way, sealing, checking, brought, taken, endIf, readied, takenAt, writtenAt, Kind}
-use Rattle.session.specs.Offered.{only, placeIn, inNote, afterNote, inBody, afterBody, inTrailer, stateIn}
+use Rattle.session.specs.Sessions.{Way, sealing, checking, taken, endIf, readied, takenAt, Kind}
+use Rattle.session.specs.Offered.{only, placeIn, inNote, afterNote, inBody, afterBody, stateIn}
 
 pub front-long : (r : ℕ) (note : List ℕ) → length (front r ++ note) ≡ frontBytes + length note
 unfolding front bytesOf

@@ -1,11 +1,10 @@
 -- What the calls on a session's state ensure, put together over the width.
 -- Assumes nothing.
-use mathlib.Core.Path.{_≡_, refl, sym, ap, ap₂, _∙_}
-use mathlib.Core.Bool.{Bool, true, false, _&&_, cond}
+use mathlib.Core.Path.{_≡_, sym, ap, ap₂, _∙_}
+use mathlib.Core.Bool.{Bool, true, _&&_, cond}
 use mathlib.Core.List.{List, _++_}
 use Prim.Native.Nat.{ℕ, _+_, _/_, _≤_}
 use native.Mathlib.Omega.{arith}
-use borrow.Author.Tests.{eq-eqb}
 use lib.Dec.{ltb, leb, eqb}
 use lib.ListN.{length, take, drop, replicate}
 use lib.Seq.{length-take-le}
@@ -14,6 +13,7 @@ use Rattle.norx.specs.Front.{front, frontBytes}
 use Rattle.norx.specs.Stream.{fed, fedText}
 use Rattle.norx.proofs.Words.{length-bytesOfRow}
 use Rattle.norx.proofs.Slices.{copied}
+use Rattle.answers.proofs.Tests.{cond-equal}
 use Rattle.sealing.proofs.Written.{tag-fits}
 use Rattle.places.specs.declared.Part.{Part}
 use Rattle.places.specs.declared.Part.the-variants.{Body}
@@ -23,7 +23,7 @@ use Rattle.session.specs.Sessions.{Way, sealing, brought, taken, endIf, 
 
 -- the words of a key or of a nonce that has the length of one
 pub row-of : (w : Width) (b : List ℕ) {r : List ℕ} → length b ≡ rowBytes w → r ≡ cond (eqb (length b) (rowBytes w)) (rowOf w b) (replicate 4 0) → r ≡ rowOf w b
-row-of w b h e = e ∙ ap (λ (x : Bool). cond x (rowOf w b) (replicate 4 0)) (eq-eqb (length b) (rowBytes w) h)
+row-of w b h e = cond-equal (rowOf w b) (replicate 4 0) (length b) (rowBytes w) h e
 
 pub fresh-of : (w : Width) (l t r : ℕ) (key nonce : List ℕ) {b n : List ℕ} {s u : State} → length nonce ≡ rowBytes w → b ≡ front r
     → n ≡ cond (eqb (length nonce) (rowBytes w)) (rowOf w nonce) (replicate 4 0) → s ≡ start w l t key n → u ≡ fed w l headerMark s 0 b

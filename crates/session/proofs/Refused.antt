@@ -1,16 +1,17 @@
 -- A refused call changes nothing, of any session; and the closed session refuses every call.
 -- Assumes nothing.
 use mathlib.Core.Path.{_≡_, refl, sym, ap, ap₂, _∙_}
-use mathlib.Core.Bool.{Bool, true, false, cond}
-use mathlib.Core.Logic.{_⊎_, inl, inr, ⊎-elim}
+use mathlib.Core.Bool.{true, false}
+use mathlib.Core.Logic.{_⊎_, ⊎-elim}
 use mathlib.Core.List.{List, [], _∷_, _++_}
 use Prim.Native.Nat.{ℕ, _/_}
 use lib.ListN.{length}
 use Rattle.answers.specs.declared.Answer.{Answer}
 use Rattle.answers.specs.declared.Answer.the-variants.{NotSound}
 use Rattle.answers.specs.Answers.{doneOf, needOf}
+use Rattle.answers.proofs.Tests.{either, cond-true, cond-false}
 use Rattle.places.specs.declared.Place.{Place}
-use Rattle.places.specs.Places.{closedPlace, soundOf, pieceAnswer, closeAnswer}
+use Rattle.places.specs.Places.{soundOf, pieceAnswer, closeAnswer}
 use Rattle.session.specs.Sessions.{exactOf, Kind, closedOf, pieceAnswerOf, pieceOf, pieceOut, closeAnswerOf, closeOf, closeTag}
 use Rattle.session.specs.Offered.{Piece, callOf, isTaken, afterPiece, afterAll, accepted, wrote, wroteAll}
 use Rattle.session.specs.Promises.{RefusedNothing, WithoutRefused}
@@ -22,16 +23,6 @@ pub record Lawful (K : Kind) : Type 0 where
   pub keyed : (p : Place) (w k : List ℕ) → K .key (K .make p w k) ≡ k
   pub answered : (a : Answer) (s : K .Session) → K .answer (K .step a s) ≡ a
   pub stepped : (a : Answer) (s : K .Session) → K .next (K .step a s) ≡ s
-
-pub either : (b : Bool) → (b ≡ true) ⊎ (b ≡ false)
-either true = inl refl
-either false = inr refl
-
-pub cond-true : {A : Type 0} (b : Bool) (x y : A) → b ≡ true → cond b x y ≡ x
-cond-true b x y h = ap (λ (c : Bool). cond c x y) h
-
-pub cond-false : {A : Type 0} (b : Bool) (x y : A) → b ≡ false → cond b x y ≡ y
-cond-false b x y h = ap (λ (c : Bool). cond c x y) h
 
 module _ (K : Kind) (L : Lawful K) where
   abbrev pub answerTo : K .Session → Piece → Answer

@@ -7,7 +7,7 @@ use Prim.Native.Nat.{ℕ, _+_, _/_, _≤_}
 use borrow.Author.Tests.{le-leb}
 use lib.Dec.{leb}
 use lib.ListN.{length}
-use Rattle.norx.specs.Norx.{Width, State, rowBytes, rowOf, tagOf, headerMark, start}
+use Rattle.norx.specs.Norx.{State, rowBytes, rowOf, tagOf, headerMark, start}
 use Rattle.norx.specs.Front.{front}
 use Rattle.norx.specs.Stream.{fed}
 use Rattle.answers.specs.declared.Answer.{Answer}
@@ -17,7 +17,7 @@ use Rattle.places.specs.declared.Part.the-variants.{Note}
 use Rattle.places.specs.declared.Place.{Place}
 use Rattle.places.specs.Places.{limitOf, countOf, freshPlace, moved, startAnswer, pieceAnswer, closeAnswer, Accepted}
 use Rattle.places.proofs.Accepts.{startable, accepted, closable}
-use Rattle.session.specs.Sessions.{rowsOf, flatOf, readied, takenAt, writtenAt, exactOf, verdictOf, Kind, closedOf, stateOf, freshOf, startOf, pieceAnswerOf, takenOf, pieceOf, pieceOut, ownTag, closeAnswerOf, closeOf, closeTag}
+use Rattle.session.specs.Sessions.{rowsOf, flatOf, readied, takenAt, writtenAt, exactOf, verdictOf, Kind, closedOf, freshOf, startOf, pieceAnswerOf, takenOf, pieceOf, pieceOut, ownTag, closeAnswerOf, closeOf, closeTag}
 
 -- what a call gives where its answer A is 0, and where it is not; a and f are what the answer and the test of it came to
 module _ {X : Type 0} (a A : Answer) (f : Bool) (ea : a ≡ A) (ef : f ≡ doneOf a) (given next kept : X) where

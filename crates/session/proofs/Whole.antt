@@ -1,12 +1,12 @@
 -- A session's joined parts as one sealing takes them in: the state before the body, the message of the body, and the tag.
 -- Assumes nothing.
-use mathlib.Core.Path.{_≡_, refl, sym, ap, ap₂, _∙_}
-use mathlib.Core.Bool.{Bool, true}
+use mathlib.Core.Path.{_≡_, refl, sym, ap, _∙_}
+use mathlib.Core.Bool.{true}
 use mathlib.Core.List.{List, [], _∷_, _++_}
 use Prim.Native.Nat.{ℕ}
 use lib.Dec.{eqb}
 use lib.ListN.{length}
-use Rattle.norx.specs.Norx.{Width, State, rowOf, bytesOf, headerMark, bodyMark, trailerMark, start, afterPart, ciphertext, message, tagOf, beforeBody, tag}
+use Rattle.norx.specs.Norx.{Width, State, rowOf, headerMark, bodyMark, trailerMark, start, afterPart, ciphertext, message, tagOf, beforeBody, tag}
 use Rattle.norx.specs.Front.{front, frontBytes}
 use Rattle.norx.specs.Stream.{fed, ended, fedText, unfed}
 use Rattle.norx.proofs.Bytes.{Bytes, bytes-append, bytes-bytesOf}
@@ -19,8 +19,8 @@ use Rattle.places.specs.declared.Part.{Part}
 use Rattle.places.specs.declared.Part.the-variants.{Note, Body, Trailer}
 use Rattle.places.specs.Places.{soundOf}
 use Rattle.session.specs.Sessions.{Way, sealing, checking, brought, taken, endIf, readied, Kind}
-use Rattle.session.specs.Offered.{placeIn, inNote, afterNote, inBody, afterBody, inTrailer, stateIn}
-use Rattle.session.proofs.Joining.{unreached, some-bytes, ended-none, taken-none, ended-note}
+use Rattle.session.specs.Offered.{placeIn, afterNote, inBody, afterBody, inTrailer, stateIn}
+use Rattle.session.proofs.Joining.{unreached, some-bytes, taken-none, ended-note}
 
 bytes-front : (r : ℕ) → Bytes (front r)
 unfolding front

@@ -1,31 +1,27 @@
 -- For any list of pieces offered to a sealing session: what the outputs hold, joined, is the ciphertext of the joined body.
 -- Assumes nothing.
-use mathlib.Core.Path.{_≡_, refl, sym, ap, ap₂, _∙_}
-use mathlib.Core.Bool.{Bool, true, false, false≢true}
+use mathlib.Core.Path.{_≡_, sym, ap, ap₂, _∙_}
+use mathlib.Core.Bool.{true, false, false≢true}
 use mathlib.Core.Logic.{⊎-elim}
 use mathlib.Core.List.{List, [], _∷_, _++_, append-assoc, append-nil}
 use Prim.Native.Nat.{ℕ}
-use native.Mathlib.Omega.{arith}
 use borrow.Author.Tests.{eqb-true}
 use lib.Dec.{leb, eqb}
 use lib.ListN.{length}
 use Rattle.norx.specs.Norx.{State}
-use Rattle.norx.specs.Stream.{fed, fedText}
-use Rattle.answers.specs.Answers.{doneOf}
+use Rattle.norx.specs.Stream.{fedText}
+use Rattle.norx.proofs.Slices.{empty}
+use Rattle.answers.proofs.Tests.{either, cond-true, cond-false}
 use Rattle.answers.proofs.Chain.{both}
 use Rattle.places.specs.declared.Part.{Part}
 use Rattle.places.specs.declared.Part.the-variants.{Note, Body, Trailer}
 use Rattle.places.specs.declared.Place.{Place}
 use Rattle.places.specs.Places.{rankOf, soundOf, sealExact}
 use Rattle.session.specs.Sessions.{Way, sealing, taken, endIf, readied, writtenAt, exactOf, Kind, stateOf, pieceOut}
-use Rattle.session.specs.Offered.{Piece, isTaken, afterPiece, accepted, wrote, wroteAll, only, joined, placeIn, afterNote, inBody, stateIn}
+use Rattle.session.specs.Offered.{Piece, isTaken, afterPiece, accepted, wrote, wroteAll, only, joined, placeIn, afterNote, stateIn}
 use Rattle.session.proofs.Joining.{unreached, some-bytes, text-more, ended-note}
-use Rattle.session.proofs.Refused.{Lawful, either, cond-true, cond-false, taken-answer, refused-session}
+use Rattle.session.proofs.Refused.{Lawful, taken-answer, refused-session}
 use Rattle.session.proofs.Held.{at, place-held, state-held, accepted-held, one-taken, andPiece, taken-list, refused-list}
-
-empty : (x : List ℕ) → eqb (length x) 0 ≡ true → x ≡ []
-empty [] e = refl
-empty (y ∷ x) e = absurd (some-bytes y x e)
 
 module _ (K : Kind) (seals : K .way ≡ sealing) (key nonce : List ℕ) (l r : ℕ) where
   -- the ciphertext of a body behind a note
@@ -54,18 +50,18 @@ module _ (K : Kind) (seals : K .way ≡ sealing) (key nonce : List ℕ) (l r : �
 
   one-left : (part : Part) (n b t : List ℕ) (k : Part) (x out : List ℕ) → soundOf (placeIn l r part n b t) ≡ true → leb (rankOf part) (rankOf k) ≡ true
       → sealExact k (length x) (length out) ≡ true → cipher n b ++ left part n b t k x out ≡ cipher (n ++ only Note k x) (b ++ only Body k x)
-  one-left Note n [] [] Note x out e o f = note-on n x out (empty out f)
+  one-left Note n [] [] Note x out e o f = note-on n x out (empty out (eqb-true (length out) 0 f))
   one-left Note n [] [] Body x out e o f = rw append-nil (body-begun n x out)
-  one-left Note n [] [] Trailer x out e o f = none-more n [] out (empty out f)
+  one-left Note n [] [] Trailer x out e o f = none-more n [] out (empty out (eqb-true (length out) 0 f))
   one-left Note n (y ∷ b) t k x out e o f = absurd (some-bytes y b (both (eqb (length (y ∷ b)) 0) (eqb (length t) 0) (unreached l r Note n (y ∷ b) t e) .0))
   one-left Note n [] (y ∷ t) k x out e o f = absurd (some-bytes y t (unreached l r Note n [] (y ∷ t) e))
   one-left Body n b [] Note x out e o f = absurd (false≢true o)
   one-left Body n b [] Body x out e o f = rw append-nil (body-on n b x out)
-  one-left Body n b [] Trailer x out e o f = none-more n b out (empty out f)
+  one-left Body n b [] Trailer x out e o f = none-more n b out (empty out (eqb-true (length out) 0 f))
   one-left Body n b (y ∷ t) k x out e o f = absurd (some-bytes y t (unreached l r Body n b (y ∷ t) e))
   one-left Trailer n b t Note x out e o f = absurd (false≢true o)
   one-left Trailer n b t Body x out e o f = absurd (false≢true o)
-  one-left Trailer n b t Trailer x out e o f = none-more n b out (empty out f)
+  one-left Trailer n b t Trailer x out e o f = none-more n b out (empty out (eqb-true (length out) 0 f))
 
   module _ (L : Lawful K) where
     one-wrote : (part : Part) (n b t : List ℕ) (q : Piece) → isTaken K (at K L key nonce l r part n b t) q ≡ true

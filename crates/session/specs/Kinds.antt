@@ -12,7 +12,7 @@ use Rattle.session.specs.declared.w64.seal.Sealing.{Sealing as Sealing64
 use Rattle.session.specs.declared.w64.seal.SealingStep.{SealingStep as SealingStep64}
 use Rattle.session.specs.declared.w64.check.Checking.{Checking as Checking64}
 use Rattle.session.specs.declared.w64.check.CheckingStep.{CheckingStep as CheckingStep64}
-use Rattle.session.specs.Sessions.{Way, sealing, checking, Kind}
+use Rattle.session.specs.Sessions.{sealing, checking, Kind}
 
 abbrev pub sealingPlace32 : Sealing32 → Place
 sealingPlace32 s = record { standing = s .standing; note = s .note; body = s .body; trailer = s .trailer; rounds = s .rounds; revision = s .revision }

@@ -6,14 +6,13 @@ use mathlib.Core.List.{List, [], _∷_, _++_}
 use lib.ListN.{length}
 use Rattle.norx.specs.Norx.{State, rowOf, headerMark, bodyMark, trailerMark, start}
 use Rattle.norx.specs.Front.{front}
-use Rattle.norx.specs.Stream.{fed, ended, fedText}
-use Rattle.answers.specs.declared.Answer.{Answer}
+use Rattle.norx.specs.Stream.{fed, ended}
 use Rattle.answers.specs.Answers.{doneOf}
 use Rattle.places.specs.declared.Part.{Part}
 use Rattle.places.specs.declared.Part.the-variants.{Note, Body, Trailer}
 use Rattle.places.specs.declared.Standing.the-variants.{Open}
 use Rattle.places.specs.declared.Place.{Place}
-use Rattle.session.specs.Sessions.{flatOf, brought, taken, Kind, pieceOf, pieceOut}
+use Rattle.session.specs.Sessions.{flatOf, taken, Kind, pieceOf, pieceOut}
 
 -- a piece as it is offered, with the output lent to it
 pub record Piece : Type 0 where

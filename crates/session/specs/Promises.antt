@@ -11,7 +11,7 @@ use Rattle.answers.specs.declared.Answer.the-variants.{Done}
 use Rattle.answers.specs.Answers.{doneOf}
 use Rattle.sealing.specs.Calls.{answerOf}
 use Rattle.places.specs.declared.Part.the-variants.{Note, Body, Trailer}
-use Rattle.session.specs.Sessions.{Kind, closedOf, startOf, pieceOut, closeOf, closeTag}
+use Rattle.session.specs.Sessions.{Kind, startOf, pieceOut, closeOf, closeTag}
 use Rattle.session.specs.Offered.{Piece, isTaken, afterPiece, afterAll, accepted, wroteAll, joined, heldBy}
 
 -- every piece is bytes, as a lent slice is

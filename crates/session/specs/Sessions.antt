@@ -1,6 +1,6 @@
 -- What each call on a session gives, on all inputs, over the session's kind.
 -- Assumes nothing.
-use Prim.Native.Nat.{ℕ, _+_, _/_}
+use Prim.Native.Nat.{ℕ, _/_}
 use mathlib.Core.Bool.{Bool, true, _&&_, cond}
 use mathlib.Core.List.{List, [], _∷_}
 use lib.ListN.{length, replicate}

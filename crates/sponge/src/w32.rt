@@ -3,4 +3,5 @@ mod blocks;
 pub mod ends;
 pub mod parts;
 pub mod pieces;
+mod turns;
 mod words;

@@ -6,13 +6,13 @@ ghost use Prim.Native.Nat.{_*_, _/_, _<_};
 ghost use lib.Dec.{eqb};
 ghost use lib.ListN.{length, take, drop};
 ghost use Rattle.norx.specs.Norx.{word64, xors, bodyMark, xorBlock, rateOf, entered, padded as paddedOf, afterBlocks, afterPart, cipherBlocks, ciphertext, messageBlocks, message};
-use super::blocks::enter;
 use super::blocks::filled;
 use super::blocks::padded;
 use super::blocks::rate_bytes;
-use super::blocks::turn;
-use super::blocks::turns;
 use super::blocks::xor_block;
+use super::turns::enter;
+use super::turns::turn;
+use super::turns::turns;
 
 const BODY: u64 = 0x02;
 

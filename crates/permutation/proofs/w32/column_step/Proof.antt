@@ -1,21 +1,13 @@
--- `permutation::w32::column_step`: its four calls of G, put together.
+-- `permutation::w32::column_step` is G on the columns of the state's rows.
 -- Assumes nothing.
-use mathlib.Core.Path.{_∙_}
 use borrow.Author.Needs.{needs}
-use Rattle.norx.specs.Norx.{word32, G}
-use Rattle.norx.proofs.Steps.{by-columns}
+use Rattle.norx.specs.Norx.{onColumns}
 use Rattle.permutation.proofs.w32.column_step.Statement.{statement}
 use Rattle.permutation.proofs.w32.column_step.Tie as tie
 
 returns : tie.Need-returns
-returns c =
-    let c4 = c .before in
-    let c3 = c4 .before in
-    let c2 = c3 .before in
-    let c1 = c2 .before in
-    c .columns .ensures ∙ by-columns (G word32) (c1 .before .args .s) (c4 .across4 .ensures) (c2 .across2 .ensures) (c3 .across3 .ensures) (c1 .across .ensures)
+unfolding onColumns
+returns c = c .g-columns .ensures
 
 pub column-step-spec : {M : Type 1} → statement M
-column-step-spec =
-    tie.close
-    (tie.spec (λ c κs. search needs) (λ c κs. search needs) (λ c κs. search needs) (λ c κs. search needs) (λ c κs. search needs) returns)
+column-step-spec = tie.close (tie.spec (λ c. search needs) (λ c. search needs) (λ c. search needs) (λ c. search needs) (λ c κs. search needs) returns)

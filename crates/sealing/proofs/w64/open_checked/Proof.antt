@@ -1,13 +1,13 @@
 -- `sealing::w64::open_checked`: what its calls leave is the message where the tags are the same, and else zeros.
 -- Assumes nothing.
 use borrow.Author.Needs.{needs}
-use mathlib.Core.Path.{_≡_, refl, sym, ap, _∙_}
+use mathlib.Core.Path.{refl, sym, ap, _∙_}
 use mathlib.Core.Bool.{Bool, cond}
 use mathlib.Core.List.{List}
 use mathlib.Core.Option.{Option, none, some}
 use Prim.Native.Nat.{ℕ}
 use lib.ListN.{length, replicate}
-use Rattle.norx.specs.Norx.{word64, tagBits, opened}
+use Rattle.norx.specs.Norx.{word64}
 use Rattle.sealing.specs.Calls.{answerOf, outOf}
 use Rattle.sealing.proofs.Written.{opened-of}
 use Rattle.sealing.proofs.w64.open_checked.Statement.{statement}

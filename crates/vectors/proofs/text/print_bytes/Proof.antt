@@ -1,6 +1,5 @@
 -- `vectors::text::print_bytes`: the place stays within the bytes.
 -- Assumes nothing.
-use mathlib.Core.Path.{_≡_}
 use Prim.Native.Nat.{_-_, _≤_}
 use lib.ListN.{length}
 use borrow.Author.Needs.{needs}

@@ -1,9 +1,8 @@
 -- `sponge::w32::parts::encrypt_exact`: the full blocks, and behind them the bytes left.
 -- Assumes nothing.
 use borrow.Author.Needs.{needs}
-use mathlib.Core.Path.{refl, sym, ap, _∙_}
-use mathlib.Core.List.{List}
-use Prim.Native.Nat.{ℕ, _*_, _/_}
+use mathlib.Core.Path.{refl, sym, _∙_}
+use Prim.Native.Nat.{_*_, _/_}
 use lib.ListN.{length, take}
 use Rattle.norx.specs.Norx.{word32, bodyMark, rateOf}
 use Rattle.norx.proofs.Slices.{tail}
