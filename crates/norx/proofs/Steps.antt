@@ -1,12 +1,12 @@
 -- What code shows of G, of the two steps of a round and of P, from what its calls give, at every width.
 -- Assumes nothing.
 use mathlib.Core.Path.{_≡_, refl, ap, _∙_}
-use mathlib.Core.List.{List, [], _∷_}
+use mathlib.Core.List.{List}
 use lib.Bits.{bitXor, xor-comm}
 use Prim.Native.Nat.{ℕ, _+_}
 use native.Mathlib.Numerals.{add-one}
 use Rattle.norx.specs.Norx.{Width, r0, r1, r2, r3, ror, H, G, State, row, rows, wordAt, rowAt, xorRow, columns, onColumns, onDiagonals, F, P}
-use Rattle.norx.specs.Rows.{hRow, rorRow}
+use Rattle.norx.specs.Rows.{hRow, rorRow, stepped}
 
 -- the eight steps of G, each word xored with the H that was just made
 by-steps : (w : Width) (a b c d : ℕ) {a1 b1 c1 d1 a2 b2 c2 d2 : ℕ}
@@ -19,11 +19,7 @@ by-steps w a b c d {a1} {b1} {c1} {d1} {a2} {b2} {c2} {d2} e1 e2 e3 e4 e5 e6 e7 
     let e8′ : b2 ≡ ror w (r3 w) (bitXor b1 c2) = e8 ∙ ap (ror w (r3 w)) (xor-comm c2 b1) in
     rw (e8′, e7, e6, e5, e4′, e3, e2, e1)
 
--- H of two rows, and a third row xored with that and rotated
-abbrev pub stepped : Width → ℕ → List ℕ → List ℕ → List ℕ → State
-stepped w r x y z = hRow w x y ∷ rorRow w r (xorRow (hRow w x y) z) ∷ []
-
--- four such steps are G on the columns of four rows
+-- four steps by rows are G on the columns of four rows
 pub by-rows : (w : Width) (a b c d : List ℕ) {k m n o : State} → k ≡ stepped w (r0 w) a b d → m ≡ stepped w (r1 w) c (rowAt k 1) b
     → n ≡ stepped w (r2 w) (rowAt k 0) (rowAt m 1) (rowAt k 1) → o ≡ stepped w (r3 w) (rowAt m 0) (rowAt n 1) (rowAt m 1)
     → rows (rowAt n 0) (rowAt o 1) (rowAt o 0) (rowAt n 1) ≡ onColumns (G w) (rows a b c d)

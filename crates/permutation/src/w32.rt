@@ -3,8 +3,8 @@ ghost use mathlib.Core.Path.{_≡_};
 ghost use mathlib.Core.List.{_∷_, []};
 ghost use lib.Bits.{bitXor};
 ghost use Prim.Native.Nat.{_<_};
-ghost use Rattle.norx.specs.Norx.{word32, xorRow, row, rows, wordAt, ror, H as hOf, G as gOf, onColumns, onDiagonals, F, P, constants, rowAt};
-ghost use Rattle.norx.specs.Rows.{hRow, rorRow};
+ghost use Rattle.norx.specs.Norx.{word32, row, rows, wordAt, ror, H as hOf, G as gOf, onColumns, onDiagonals, F, P, constants, rowAt};
+ghost use Rattle.norx.specs.Rows.{stepped};
 
 // x rotated right.
 fn rotated(x: u32, right: u32) -> u32
@@ -32,7 +32,7 @@ fn step(x: u32, y: u32, z: u32, right: u32) -> [u32; 2]
 // That step in four columns at once, whose words stand in the rows x, y and z.
 fn row_step(x: [u32; 4], y: [u32; 4], z: [u32; 4], right: u32) -> [[u32; 4]; 2]
     requires { ⌜ (0 < right) × (right < 32) ⌝ }
-    ensures { λ r. ⌜ r ≡ hRow word32 x y ∷ rorRow word32 right (xorRow (hRow word32 x y) z) ∷ [] ⌝ }
+    ensures { λ r. ⌜ r ≡ stepped word32 right x y z ⌝ }
 {
     let p = step(x[0], y[0], z[0], right);
     let q = step(x[1], y[1], z[1], right);

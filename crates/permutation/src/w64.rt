@@ -3,8 +3,8 @@ ghost use mathlib.Core.Path.{_≡_};
 ghost use mathlib.Core.List.{_∷_, []};
 ghost use lib.Bits.{bitXor};
 ghost use Prim.Native.Nat.{_<_};
-ghost use Rattle.norx.specs.Norx.{word64, xorRow, row, rows, wordAt, ror, H as hOf, G as gOf, onColumns, onDiagonals, F, P, constants, rowAt};
-ghost use Rattle.norx.specs.Rows.{hRow, rorRow};
+ghost use Rattle.norx.specs.Norx.{word64, row, rows, wordAt, ror, H as hOf, G as gOf, onColumns, onDiagonals, F, P, constants, rowAt};
+ghost use Rattle.norx.specs.Rows.{stepped};
 
 // x rotated right.
 fn rotated(x: u64, right: u32) -> u64
@@ -32,7 +32,7 @@ fn step(x: u64, y: u64, z: u64, right: u32) -> [u64; 2]
 // That step in four columns at once, whose words stand in the rows x, y and z.
 fn row_step(x: [u64; 4], y: [u64; 4], z: [u64; 4], right: u32) -> [[u64; 4]; 2]
     requires { ⌜ (0 < right) × (right < 64) ⌝ }
-    ensures { λ r. ⌜ r ≡ hRow word64 x y ∷ rorRow word64 right (xorRow (hRow word64 x y) z) ∷ [] ⌝ }
+    ensures { λ r. ⌜ r ≡ stepped word64 right x y z ⌝ }
 {
     let p = step(x[0], y[0], z[0], right);
     let q = step(x[1], y[1], z[1], right);
