@@ -1,4 +1,7 @@
 // The numbers that rule every call, each of them once; w32 and w64 have those of a width.
+ghost use mathlib.Core.Path.{_≡_};
+ghost use Rattle.rules.specs.Rules.{roundsOk, lengthsOk};
+
 pub mod w32;
 pub mod w64;
 
@@ -23,3 +26,17 @@ pub const BODY_MARK: u8 = 0x02;
 pub const TRAILER_MARK: u8 = 0x04;
 
 pub const TAG_MARK: u8 = 0x08;
+
+// Rounds are 4 or 6.
+pub fn rounds_ok(rounds: u32) -> bool
+    ensures { λ r. ⌜ r ≡ roundsOk rounds ⌝ }
+{
+    (rounds == 4) | (rounds == 6)
+}
+
+// A key and a nonce have the length of a row.
+pub fn lengths_ok(row: usize, key: usize, nonce: usize) -> bool
+    ensures { λ r. ⌜ r ≡ lengthsOk row key nonce ⌝ }
+{
+    (key == row) & (nonce == row)
+}

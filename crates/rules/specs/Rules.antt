@@ -1,0 +1,35 @@
+-- The numbers that rule every call. What Norx.antt says of a width, its rounds, its marks and its tag bits, and Front.antt of the front, is said there.
+-- Assumes nothing.
+use mathlib.Core.Bool.{Bool, _&&_, _||_}
+use Prim.Native.Nat.{ℕ, _-_, _/_}
+use lib.Dec.{leb, eqb}
+use Rattle.norx.specs.Norx.{Width, tagBits}
+use Rattle.norx.specs.Front.{frontBytes}
+
+-- header and trailer 0 to 65,536 bytes each; body 0 to 16,777,216
+abbrev pub longestHeader : ℕ
+longestHeader = 65536
+
+abbrev pub longestBody : ℕ
+longestBody = 16777216
+
+abbrev pub longestTrailer : ℕ
+longestTrailer = longestHeader
+
+-- in a session the note is 0 to 65528, because the front stands before it
+abbrev pub longestNote : ℕ
+longestNote = longestHeader - frontBytes
+
+abbrev pub within : ℕ → ℕ → ℕ → Bool
+within header body trailer = leb header longestHeader && leb body longestBody && leb trailer longestTrailer
+
+-- rounds are 4 or 6
+abbrev pub roundsOk : ℕ → Bool
+roundsOk l = eqb l 4 || eqb l 6
+
+-- a key and a nonce have the length of a row
+abbrev pub lengthsOk : ℕ → ℕ → ℕ → Bool
+lengthsOk row key nonce = eqb key row && eqb nonce row
+
+abbrev pub tagBytes : Width → ℕ
+tagBytes w = tagBits w / 8
