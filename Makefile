@@ -1,5 +1,5 @@
 # make: proves every crate, runs every program, shows the accident replayed, and builds the C library.
-# make test: the tests outside the proof, and then the merge gate.   make bench: the library beside a C implementation, and a session beside one call.
+# make test: the merge gate, and then the tests outside the proof.   make bench: the library beside a C implementation, and a session beside one call.
 # make install PREFIX=..: the library, its header and a pkg-config file, for a C build to find.
 .PHONY: all library install test outside bench clean
 PREFIX ?= /usr/local
@@ -19,24 +19,18 @@ library:
 install: library
 	@packaging/install.sh $(abspath $(PREFIX))
 
-test: outside
-	@echo
-	@echo "The merge gate: every crate from nothing, every must-fail edit, every program:"
-	@rt ci
+test:
+	@tests/gate.sh
 
-outside: library
-	@echo "What the archive exports:"
-	@tests/archive.sh
-	@echo "The rows on limits:"
-	@tests/limits.sh
-	@echo "The README's program, with the archive and with what is installed:"
-	@tests/readme.sh
-	@echo "The library beside an independent implementation:"
-	@tests/run.sh
+outside:
+	@tests/outside.sh
 
 bench: library
-	@rt staticlib paced
 	@tests/bench.sh
+	@echo
+	@echo "Proving the program that measures sessions:"
+	@rt check pace
+	@tests/pace.sh
 
 clean:
 	rm -rf target

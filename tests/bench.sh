@@ -1,5 +1,5 @@
 #!/bin/sh
-# Builds the benchmark with the archive, and with libpaced.a from the usual place, and runs it:
+# Builds the benchmark with the archive and runs it:
 #   tests/bench.sh [ARCHIVE]
 
 set -eu
@@ -10,6 +10,5 @@ program=$root/target/tests/bench
 mkdir -p target/tests
 # The flags are lists of words.
 # shellcheck disable=SC2086
-$CC $CFLAGS -Iinclude -Itests -Itests/reference -o "$program" tests/bench.c tests/reference/norx.c "$archive" \
-    target/staticlib/libpaced.a $LDFLAGS
+$CC $CFLAGS -Iinclude -Itests/reference -o "$program" tests/bench.c tests/reference/norx.c "$archive" $LDFLAGS
 $RUN "$program"

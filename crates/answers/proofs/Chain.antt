@@ -1,6 +1,6 @@
 -- Chains of refusals: put together link by link, and what is known where one gives no refusal.
 -- Assumes nothing.
-use mathlib.Core.Path.{_≡_, refl, ap₂, _∙_}
+use mathlib.Core.Path.{_≡_, refl, sym, ap, ap₂, _∙_}
 use mathlib.Core.Bool.{Bool, true, false, _&&_}
 use Prim.Native.Nat.{ℕ}
 use native.Mathlib.Omega.{arith}
@@ -10,6 +10,10 @@ use Rattle.answers.specs.Answers.{doneOf, needOf}
 -- one link of a chain, from what its test and the rest of the chain are
 pub link : (refusal : Answer) {ok ok′ : Bool} {rest rest′ given : Answer} → given ≡ needOf ok refusal rest → ok ≡ ok′ → rest ≡ rest′ → given ≡ needOf ok′ refusal rest′
 link refusal e f g = e ∙ ap₂ (λ (a : Bool) (b : Answer). needOf a refusal b) f g
+
+-- how a test of the answer that a chain gave came out, of the chain itself
+pub tested : {given chain : Answer} {test way : Bool} → given ≡ chain → test ≡ doneOf given → test ≡ way → doneOf chain ≡ way
+tested e f g = ap doneOf (sym e) ∙ sym f ∙ g
 
 -- a link that gives no refusal: its test holds, and so does the rest
 pub passed : (ok : Bool) (refusal rest : Answer) → doneOf refusal ≡ false → doneOf (needOf ok refusal rest) ≡ true → (ok ≡ true) × (doneOf rest ≡ true)

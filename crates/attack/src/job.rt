@@ -1,4 +1,8 @@
 // The job that is attacked, and what it is sealed to: a message of the nonce, the ciphertext and the tag.
+use places::Label;
+use places::Part;
+use places::terms::Edition;
+use places::terms::Terms;
 
 pub(crate) const BODY: usize = 300;
 
@@ -77,5 +81,27 @@ pub(crate) fn said_revision(foreign: bool, revision: u64) -> u64 {
         12
     } else {
         11
+    }
+}
+
+// A session, a piece and a close of a revision: what each of them says of it.
+pub(crate) fn edition(revision: u64) -> Edition {
+    Edition { revision }
+}
+
+pub(crate) fn terms(revision: u64) -> Terms {
+    let edition = edition(revision);
+    Terms {
+        rounds: ROUNDS,
+        edition,
+    }
+}
+
+pub(crate) fn label(revision: u64, part: Part, offset: usize) -> Label {
+    let edition = edition(revision);
+    Label {
+        edition,
+        part,
+        offset,
     }
 }

@@ -1,8 +1,7 @@
 // The C host's library: sealing and opening in one call, on numbers and byte slices.
 ghost use mathlib.Core.Path.{_≡_};
 ghost use Rattle.answers.specs.Answers.{numberOf};
-ghost use Rattle.jeczmilot.specs.Host.{hostSealAnswer, hostSealOut, hostOpenAnswer, hostOpenOut};
-use answers::Answer;
+ghost use Rattle.sealing.specs.Widths.{sealAnswerAt, sealOutAt, openAnswerAt, openOutAt};
 use answers::number;
 
 // Seals a body at the width given as a number; the answer is its number.
@@ -17,16 +16,10 @@ pub extern "C" fn norx_seal(
     trailer: &[u8],
     out: &mut [u8],
 ) -> u32
-    ensures answer { λ r. ⌜ r ≡ numberOf (hostSealAnswer width rounds (now (key .entry)) (now (nonce .entry)) (now (header .entry)) (now (body .entry)) (now (trailer .entry)) (now (out .entry))) ⌝ }
-    ensures output { λ _. ⌜ now (out .exit) ≡ hostSealOut width rounds (now (key .entry)) (now (nonce .entry)) (now (header .entry)) (now (body .entry)) (now (trailer .entry)) (now (out .entry)) ⌝ }
+    ensures answer { λ r. ⌜ r ≡ numberOf (sealAnswerAt width rounds (now (key .entry)) (now (nonce .entry)) (now (header .entry)) (now (body .entry)) (now (trailer .entry)) (now (out .entry))) ⌝ }
+    ensures output { λ _. ⌜ now (out .exit) ≡ sealOutAt width rounds (now (key .entry)) (now (nonce .entry)) (now (header .entry)) (now (body .entry)) (now (trailer .entry)) (now (out .entry)) ⌝ }
 {
-    if width == 32 {
-        return number(sealing::w32::seal(rounds, key, nonce, header, body, trailer, out));
-    }
-    if width == 64 {
-        return number(sealing::w64::seal(rounds, key, nonce, header, body, trailer, out));
-    }
-    number(Answer::WidthNumber)
+    number(sealing::seal(width, rounds, key, nonce, header, body, trailer, out))
 }
 
 // Opens a sealed text at the width given as a number; the answer is its number.
@@ -41,14 +34,8 @@ pub extern "C" fn norx_open(
     trailer: &[u8],
     out: &mut [u8],
 ) -> u32
-    ensures answer { λ r. ⌜ r ≡ numberOf (hostOpenAnswer width rounds (now (key .entry)) (now (nonce .entry)) (now (header .entry)) (now (sealed .entry)) (now (trailer .entry)) (now (out .entry))) ⌝ }
-    ensures output { λ _. ⌜ now (out .exit) ≡ hostOpenOut width rounds (now (key .entry)) (now (nonce .entry)) (now (header .entry)) (now (sealed .entry)) (now (trailer .entry)) (now (out .entry)) ⌝ }
+    ensures answer { λ r. ⌜ r ≡ numberOf (openAnswerAt width rounds (now (key .entry)) (now (nonce .entry)) (now (header .entry)) (now (sealed .entry)) (now (trailer .entry)) (now (out .entry))) ⌝ }
+    ensures output { λ _. ⌜ now (out .exit) ≡ openOutAt width rounds (now (key .entry)) (now (nonce .entry)) (now (header .entry)) (now (sealed .entry)) (now (trailer .entry)) (now (out .entry)) ⌝ }
 {
-    if width == 32 {
-        return number(sealing::w32::open(rounds, key, nonce, header, sealed, trailer, out));
-    }
-    if width == 64 {
-        return number(sealing::w64::open(rounds, key, nonce, header, sealed, trailer, out));
-    }
-    number(Answer::WidthNumber)
+    number(sealing::open(width, rounds, key, nonce, header, sealed, trailer, out))
 }

@@ -7,7 +7,7 @@ use native.Mathlib.Nat.{zero-sub, sub-zero, suc-sub-suc, le-of-eq, div-add-mod',
 use native.Mathlib.Omega.{arith}
 use lib.ListN.{length, take, drop, replicate, length-append, length-drop, drop-of-length-le}
 use Rattle.norx.specs.Turns.{put}
-use lib.Seq.{sets, sets-eq, take-at, drop-at, drop-drop, take-all, take-length}
+use lib.Seq.{take-at, drop-at, drop-drop, take-all, take-length}
 
 -- `&l[a..a + n]`
 pub span : (a n : ℕ) → a + n - a ≡ n
@@ -26,11 +26,6 @@ empty (x ∷ l) h = let z : ⊥ = omega arith in absurd z
 
 pub list4 : {A : Type 0} {a b c d a′ b′ c′ d′ : A} → a ≡ a′ → b ≡ b′ → c ≡ c′ → d ≡ d′ → _≡_ {A = List A} (a ∷ b ∷ c ∷ d ∷ []) (a′ ∷ b′ ∷ c′ ∷ d′ ∷ [])
 list4 p q r s = λ k. p k ∷ q k ∷ r k ∷ s k ∷ []
-
--- every element written: what was there is gone
-pub overwrite : (vs l : List ℕ) → length l ≡ length vs → sets l 0 vs ≡ vs
-overwrite vs l h =
-    sets-eq vs l 0 (omega arith) ∙ ap (λ (t : List ℕ). vs ++ t) (drop-of-length-le l {i = 0 + length vs} (omega arith)) ∙ append-nil vs
 
 -- all of a slice written by a copy
 pub copied : (s d : List ℕ) → length s ≡ length d → take (length s) s ++ drop (length s) d ≡ s
@@ -66,13 +61,10 @@ put-next p q ys a n h =
 length-two : (p q : List ℕ) (a b : ℕ) → length p ≡ a → length q ≡ b → length (p ++ q) ≡ a + b
 length-two p q a b h k = length-append p q ∙ ap₂ (λ (x y : ℕ). x + y) h k
 
--- two, three and four parts of n elements, lent one after the other
+-- three and four parts of n elements, lent one after the other
 module _ (n : ℕ) (l a b : List ℕ) (ha : length a ≡ n) (hb : length b ≡ n) where
   two-parts : put (put l 0 a n) n b n ≡ (a ++ b) ++ drop (n + n) l
   two-parts = put-next a (drop n l) b n n ha ∙ ap (λ (t : List ℕ). (a ++ b) ++ t) (drop-drop n n l)
-
-  halves : length l ≡ n + n → put (put l 0 a n) n b n ≡ a ++ b
-  halves hl = two-parts ∙ ap (λ (t : List ℕ). (a ++ b) ++ t) (drop-of-length-le l {i = n + n} (omega arith)) ∙ append-nil (a ++ b)
 
   module _ (c : List ℕ) (hc : length c ≡ n) where
     three-parts : put (put (put l 0 a n) n b n) (n + n) c n ≡ ((a ++ b) ++ c) ++ drop (n + n + n) l
@@ -94,9 +86,6 @@ module _ (n : ℕ) (l a b : List ℕ) (ha : length a ≡ n) (hb : length b ≡ n
         ∙ append-nil (((a ++ b) ++ c) ++ d) ∙ simp append-assoc
 
 -- the same, of what calls left in the parts
-pub halves-of : (n : ℕ) (l : List ℕ) {y z a b : List ℕ} → y ≡ a → z ≡ b → length a ≡ n → length b ≡ n → length l ≡ n + n → put (put l 0 y n) n z n ≡ a ++ b
-halves-of n l {a = a} {b = b} e f ha hb hl = (λ k. put (put l 0 (e k) n) n (f k) n) ∙ halves n l a b ha hb hl
-
 pub thirds-of : (n : ℕ) (l : List ℕ) {x y z a b c : List ℕ} → x ≡ a → y ≡ b → z ≡ c → length a ≡ n → length b ≡ n → length c ≡ n → length l ≡ n + n + n
     → put (put (put l 0 x n) n y n) (n + n) z n ≡ a ++ (b ++ c)
 thirds-of n l {a = a} {b = b} {c = c} e f g ha hb hc hl =

@@ -8,40 +8,50 @@ use lib.Dec.{leb, eqb}
 use Rattle.answers.specs.declared.Answer.the-variants.{Done}
 use Rattle.answers.specs.Answers.{doneOf, needOf}
 use Rattle.answers.proofs.Chain.{passed, both}
-use Rattle.sealing.specs.Calls.{roundsOk}
+use Rattle.places.specs.declared.terms.Edition.{Edition}
+use Rattle.places.specs.declared.terms.Terms.{Terms}
 use Rattle.places.specs.declared.Part.{Part}
 use Rattle.places.specs.declared.Part.the-variants.{Note, Body, Trailer}
+use Rattle.places.specs.declared.Label.{Label}
 use Rattle.places.specs.declared.Standing.{Standing}
 use Rattle.places.specs.declared.Standing.the-variants.{Closed, Open}
 use Rattle.places.specs.declared.Place.{Place}
+use Rattle.places.specs.Terms.{termsOk}
 use Rattle.places.specs.Places.{rankOf, presentOf, limitOf, countOf, moved, withinOf, unreachedOf, soundAt, soundOf, startAnswer, pieceAnswer, closeAnswer, Accepted}
+use Rattle.places.proofs.Editions.{edition-passed, edition-own}
 
 within-at : (s : Standing) (p : Place) → soundAt s p ≡ true → withinOf p ≡ true
 within-at Closed p e = absurd (false≢true e)
-within-at (Open part) p e = both (roundsOk (p .rounds)) (withinOf p) (both (roundsOk (p .rounds) && withinOf p) (unreachedOf p part) e .0) .1
+within-at (Open part) p e = both (termsOk (p .terms)) (withinOf p) (both (termsOk (p .terms) && withinOf p) (unreachedOf p part) e .0) .1
 
 pub sound-within : (p : Place) → soundOf p ≡ true → withinOf p ≡ true
 unfolding soundOf
 sound-within p e = within-at (p .standing) p e
 
+-- no count over its limit
+each-within : (p : Place) → withinOf p ≡ true
+    → (leb (p .note) (limitOf Note) ≡ true) × (leb (p .body) (limitOf Body) ≡ true) × (leb (p .trailer) (limitOf Trailer) ≡ true)
+each-within p e =
+    let first = both (leb (p .note) (limitOf Note) && leb (p .body) (limitOf Body)) (leb (p .trailer) (limitOf Trailer)) e in
+    let second = both (leb (p .note) (limitOf Note)) (leb (p .body) (limitOf Body)) (first .0) in
+    (second .0, second .1, first .1)
+
 pub sound-noted : (p : Place) → soundOf p ≡ true → p .note ≤ limitOf Note
 sound-noted p e =
-    leb-true (p .note) 65528
-    (both (leb (p .note) 65528) (leb (p .body) 16777216) (both (leb (p .note) 65528 && leb (p .body) 16777216) (leb (p .trailer) 65536) (sound-within p e) .0) .0)
+    leb-true (p .note) (limitOf Note) (each-within p (sound-within p e) .0)
 
-pub startable : (row l key nonce : ℕ) → doneOf (startAnswer row l key nonce) ≡ true → (roundsOk l ≡ true) × (key ≡ row) × (nonce ≡ row)
+pub startable : (row : ℕ) (T : Terms) (key nonce : ℕ) → doneOf (startAnswer row T key nonce) ≡ true → (termsOk T ≡ true) × (key ≡ row) × (nonce ≡ row)
 unfolding startAnswer
-startable row l key nonce h =
+startable row T key nonce h =
     let rounds = passed _ _ _ refl h in
     let lengths = both (eqb key row) (eqb nonce row) (passed _ _ _ refl (rounds .1) .0) in
     (rounds .0, eqb-true key row (lengths .0), eqb-true nonce row (lengths .1))
 
-pub accepted : (p : Place) (revision : ℕ) (part : Part) (offset n : ℕ) (exact : Bool) → doneOf (pieceAnswer p revision part offset n exact) ≡ true → Accepted p part n exact
+pub accepted : (p : Place) (label : Label) (n : ℕ) (exact : Bool) → doneOf (pieceAnswer p label n exact) ≡ true → Accepted p (label .part) n exact
 unfolding pieceAnswer
-accepted p revision part offset n exact h =
+accepted p label n exact h =
     let sound = passed _ _ _ refl h in
-    let same = passed _ _ _ refl (sound .1) in
-    let onward = passed _ _ _ refl (same .1) in
+    let onward = passed _ _ _ refl (edition-passed (label .edition) (p .terms .edition) _ (sound .1)) in
     let place = passed _ _ _ refl (onward .1) in
     let room = passed _ _ _ refl (place .1) in
     record {
@@ -52,13 +62,12 @@ accepted p revision part offset n exact h =
       fits = passed _ _ _ refl (room .1) .0;
     }
 
-pub closable : (p : Place) (revision tagBytes tag : ℕ) → doneOf (closeAnswer p revision tagBytes tag) ≡ true → (p .note ≤ limitOf Note) × (tag ≡ tagBytes)
+pub closable : (p : Place) (edition : Edition) (wanted tag : ℕ) → doneOf (closeAnswer p edition wanted tag) ≡ true → (p .note ≤ limitOf Note) × (tag ≡ wanted)
 unfolding closeAnswer
-closable p revision tagBytes tag h =
+closable p edition wanted tag h =
     let sound = passed _ _ _ refl h in
-    let same = passed _ _ _ refl (sound .1) in
-    let within = passed _ _ _ refl (same .1) in
-    (sound-noted p (sound .0), eqb-true tag tagBytes (passed _ _ _ refl (within .1) .0))
+    let within = passed _ _ _ refl (edition-passed edition (p .terms .edition) _ (sound .1)) in
+    (sound-noted p (sound .0), eqb-true tag wanted (passed _ _ _ refl (within .1) .0))
 
 -- ---- a place stays sound
 
@@ -69,11 +78,10 @@ and-true false b e f = absurd (false≢true e)
 module _ (p : Place) (n : ℕ) where
   within-moved : (k : Part) → withinOf p ≡ true → leb (countOf p k + n) (limitOf k) ≡ true → withinOf (moved p k n) ≡ true
   within-moved k e room =
-      let first = both (leb (p .note) 65528 && leb (p .body) 16777216) (leb (p .trailer) 65536) e in
-      let second = both (leb (p .note) 65528) (leb (p .body) 16777216) (first .0) in
-      go k room (second .0) (second .1) (first .1)
+      let had = each-within p e in
+      go k room (had .0) (had .1) (had .2)
     where
-      go : (k : Part) → leb (countOf p k + n) (limitOf k) ≡ true → leb (p .note) 65528 ≡ true → leb (p .body) 16777216 ≡ true → leb (p .trailer) 65536 ≡ true
+      go : (k : Part) → leb (countOf p k + n) (limitOf k) ≡ true → leb (p .note) (limitOf Note) ≡ true → leb (p .body) (limitOf Body) ≡ true → leb (p .trailer) (limitOf Trailer) ≡ true
           → withinOf (moved p k n) ≡ true
       go Note room a b c = and-true _ _ (and-true _ _ room b) c
       go Body room a b c = and-true _ _ (and-true _ _ a room) c
@@ -92,11 +100,11 @@ module _ (p : Place) (n : ℕ) where
       → soundAt (Open k) (moved p k n) ≡ true
   sound-at Closed k e o room = absurd (false≢true e)
   sound-at (Open part) k e o room =
-      let first = both (roundsOk (p .rounds) && withinOf p) (unreachedOf p part) e in
-      let second = both (roundsOk (p .rounds)) (withinOf p) (first .0) in
+      let first = both (termsOk (p .terms) && withinOf p) (unreachedOf p part) e in
+      let second = both (termsOk (p .terms)) (withinOf p) (first .0) in
       go k (second .0) (within-moved k (second .1) room) (unreached-moved part k (first .1) o)
     where
-      go : (k : Part) → roundsOk (p .rounds) ≡ true → withinOf (moved p k n) ≡ true → unreachedOf (moved p k n) k ≡ true → soundAt (Open k) (moved p k n) ≡ true
+      go : (k : Part) → termsOk (p .terms) ≡ true → withinOf (moved p k n) ≡ true → unreachedOf (moved p k n) k ≡ true → soundAt (Open k) (moved p k n) ≡ true
       go Note a b c = and-true _ _ (and-true _ _ a b) c
       go Body a b c = and-true _ _ (and-true _ _ a b) c
       go Trailer a b c = and-true _ _ (and-true _ _ a b) c
@@ -105,11 +113,10 @@ module _ (p : Place) (n : ℕ) where
   unfolding soundOf
   moved-sound k e o room = sound-at (p .standing) k e o room
 
--- a sound place is closed under its own revision with a tag of the right length
-pub sound-closes : (p : Place) (tagBytes tag : ℕ) → soundOf p ≡ true → tag ≡ tagBytes → closeAnswer p (p .revision) tagBytes tag ≡ Done
+-- a sound place is closed under its own edition with a tag of the right length
+pub sound-closes : (p : Place) (wanted tag : ℕ) → soundOf p ≡ true → tag ≡ wanted → closeAnswer p (p .terms .edition) wanted tag ≡ Done
 unfolding closeAnswer needOf
-sound-closes p tagBytes tag e f =
+sound-closes p wanted tag e f =
     let within : withinOf p ≡ true = sound-within p e in
-    let same : eqb (p .revision) (p .revision) ≡ true = eq-eqb (p .revision) (p .revision) refl in
-    let long : eqb tag tagBytes ≡ true = eq-eqb tag tagBytes f in
-    rw (e, same, within, long)
+    let long : eqb tag wanted ≡ true = eq-eqb tag wanted f in
+    rw (e, edition-own (p .terms .edition), within, long)

@@ -1,3 +1,4 @@
 pub mod Room
+pub mod Editions
 pub mod Accepts
 pub mod Unique

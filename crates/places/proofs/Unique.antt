@@ -5,6 +5,12 @@ use denote.Triple.Clauses.{AtExit}
 use contract.Lifetimes.{Lfts}
 use borrow.Fn.World.{ArgsD, ResD}
 use borrow.Fn.Kinds.{endedOf}
+use Rattle.places.proofs.closed_place.{signature as signature-closed-place}
+use Rattle.places.proofs.closed_place.Kinds as kinds-closed-place
+use Rattle.places.proofs.closed_place.Reads.{Post as Post-closed-place}
+use Rattle.places.proofs.fresh_place.{signature as signature-fresh-place}
+use Rattle.places.proofs.fresh_place.Kinds as kinds-fresh-place
+use Rattle.places.proofs.fresh_place.Reads.{Post as Post-fresh-place}
 use Rattle.places.proofs.rank.{signature as signature-rank}
 use Rattle.places.proofs.rank.Kinds as kinds-rank
 use Rattle.places.proofs.rank.Reads.{Post as Post-rank}
@@ -29,6 +35,14 @@ use Rattle.places.proofs.after.Reads.{Post as Post-after}
 use Rattle.places.proofs.front.front.{signature as signature-front-front}
 use Rattle.places.proofs.front.front.Kinds as kinds-front-front
 use Rattle.places.proofs.front.front.Reads.{Post as Post-front-front}
+
+pub one-closed-place : (κs : Lfts 0) (a : ArgsD signature-closed-place κs) (r r′ : ResD signature-closed-place κs) (s s′ : AtExit (endedOf 0 kinds-closed-place.ps kinds-closed-place.r) κs)
+    → Post-closed-place κs a r s → Post-closed-place κs a r′ s′ → r ≡ r′
+one-closed-place κs a r r′ s s′ p q = p ∙ sym q
+
+pub one-fresh-place : (κs : Lfts 0) (a : ArgsD signature-fresh-place κs) (r r′ : ResD signature-fresh-place κs) (s s′ : AtExit (endedOf 0 kinds-fresh-place.ps kinds-fresh-place.r) κs)
+    → Post-fresh-place κs a r s → Post-fresh-place κs a r′ s′ → r ≡ r′
+one-fresh-place κs a r r′ s s′ p q = p ∙ sym q
 
 pub one-rank : (κs : Lfts 0) (a : ArgsD signature-rank κs) (r r′ : ResD signature-rank κs) (s s′ : AtExit (endedOf 0 kinds-rank.ps kinds-rank.r) κs)
     → Post-rank κs a r s → Post-rank κs a r′ s′ → r ≡ r′

@@ -7,14 +7,18 @@ use lib.Dec.{leb, eqb}
 use Rattle.norx.specs.Norx.{headerMark, bodyMark, trailerMark}
 use Rattle.norx.specs.Front.{frontBytes}
 use Rattle.answers.specs.declared.Answer.{Answer}
-use Rattle.answers.specs.declared.Answer.the-variants.{Done, KeyLength, RoundsNumber, TagLength, OverLimit, OutputLength, OtherRevision, EarlierPart, OtherOffset, NotSound}
+use Rattle.answers.specs.declared.Answer.the-variants.{Done, KeyLength, RoundsNumber, TagLength, OverLimit, OutputLength, EarlierPart, OtherOffset, NotSound}
 use Rattle.answers.specs.Answers.{needOf}
-use Rattle.sealing.specs.Calls.{roundsOk}
+use Rattle.rules.specs.Rules.{longestNote, longestBody, longestTrailer, roundsOk, lengthsOk}
+use Rattle.places.specs.declared.terms.Edition.{Edition}
+use Rattle.places.specs.declared.terms.Terms.{Terms}
 use Rattle.places.specs.declared.Part.{Part}
 use Rattle.places.specs.declared.Part.the-variants.{Note, Body, Trailer}
+use Rattle.places.specs.declared.Label.{Label}
 use Rattle.places.specs.declared.Standing.{Standing}
 use Rattle.places.specs.declared.Standing.the-variants.{Closed, Open}
 use Rattle.places.specs.declared.Place.{Place}
+use Rattle.places.specs.Terms.{noTerms, termsOk, ofEdition}
 
 -- ---- Parts
 
@@ -25,9 +29,9 @@ rankOf Body = 1
 rankOf Trailer = 2
 
 abbrev pub limitOf : Part → ℕ
-limitOf Note = 65528
-limitOf Body = 16777216
-limitOf Trailer = 65536
+limitOf Note = longestNote
+limitOf Body = longestBody
+limitOf Trailer = longestTrailer
 
 abbrev pub markOf : Part → ℕ
 markOf Note = headerMark
@@ -53,19 +57,19 @@ fedOf p Note = frontBytes + p .note
 fedOf p Body = p .body
 fedOf p Trailer = p .trailer
 
-abbrev pub freshPlace : ℕ → ℕ → Place
-freshPlace l r = record { standing = Open Note; note = 0; body = 0; trailer = 0; rounds = l; revision = r }
+abbrev pub freshPlace : Terms → Place
+freshPlace T = record { standing = Open Note; note = 0; body = 0; trailer = 0; terms = T }
 
 abbrev pub closedPlace : Place
-closedPlace = record { standing = Closed; note = 0; body = 0; trailer = 0; rounds = 0; revision = 0 }
+closedPlace = record { standing = Closed; note = 0; body = 0; trailer = 0; terms = noTerms }
 
 -- the place once a piece of n bytes is accepted
 abbrev pub moved : Place → Part → ℕ → Place
-moved p Note n = record { standing = Open Note; note = p .note + n; body = p .body; trailer = p .trailer; rounds = p .rounds; revision = p .revision }
-moved p Body n = record { standing = Open Body; note = p .note; body = p .body + n; trailer = p .trailer; rounds = p .rounds; revision = p .revision }
-moved p Trailer n = record { standing = Open Trailer; note = p .note; body = p .body; trailer = p .trailer + n; rounds = p .rounds; revision = p .revision }
+moved p Note n = record { standing = Open Note; note = p .note + n; body = p .body; trailer = p .trailer; terms = p .terms }
+moved p Body n = record { standing = Open Body; note = p .note; body = p .body + n; trailer = p .trailer; terms = p .terms }
+moved p Trailer n = record { standing = Open Trailer; note = p .note; body = p .body; trailer = p .trailer + n; terms = p .terms }
 
--- ---- Sound: open, rounds 4 or 6, no count over its limit, counts of parts not yet reached 0
+-- ---- Sound: open, its terms in order, no count over its limit, counts of parts not yet reached 0
 
 abbrev pub withinOf : Place → Bool
 withinOf p = leb (p .note) (limitOf Note) && leb (p .body) (limitOf Body) && leb (p .trailer) (limitOf Trailer)
@@ -77,7 +81,7 @@ unreachedOf p Trailer = true
 
 abbrev pub soundAt : Standing → Place → Bool
 soundAt Closed p = false
-soundAt (Open part) p = roundsOk (p .rounds) && withinOf p && unreachedOf p part
+soundAt (Open part) p = termsOk (p .terms) && withinOf p && unreachedOf p part
 
 unfoldable pub soundOf : Place → Bool
 soundOf p = soundAt (p .standing) p
@@ -85,17 +89,17 @@ soundOf p = soundAt (p .standing) p
 -- ---- The orders of refusals
 
 -- start: 2, 1; `row` is the length of a key and of a nonce
-unfoldable pub startAnswer : ℕ → ℕ → ℕ → ℕ → Answer
-startAnswer row l key nonce = needOf (roundsOk l) RoundsNumber (needOf (eqb key row && eqb nonce row) KeyLength Done)
+unfoldable pub startAnswer : ℕ → Terms → ℕ → ℕ → Answer
+startAnswer row T key nonce = needOf (roundsOk (T .rounds)) RoundsNumber (needOf (lengthsOk row key nonce) KeyLength Done)
 
 -- piece: 9, 6, 7, 8, 4, 5; `exact` says that the output has the exact length
-unfoldable pub pieceAnswer : Place → ℕ → Part → ℕ → ℕ → Bool → Answer
-pieceAnswer p revision part offset n exact =
+unfoldable pub pieceAnswer : Place → Label → ℕ → Bool → Answer
+pieceAnswer p label n exact =
     needOf (soundOf p) NotSound
-    (needOf (eqb revision (p .revision)) OtherRevision
-    (needOf (leb (presentOf (p .standing)) (rankOf part)) EarlierPart
-    (needOf (eqb offset (countOf p part)) OtherOffset
-    (needOf (leb (countOf p part + n) (limitOf part)) OverLimit
+    (ofEdition (label .edition) (p .terms .edition)
+    (needOf (leb (presentOf (p .standing)) (rankOf (label .part))) EarlierPart
+    (needOf (eqb (label .offset) (countOf p (label .part))) OtherOffset
+    (needOf (leb (countOf p (label .part) + n) (limitOf (label .part))) OverLimit
     (needOf exact OutputLength Done)))))
 
 -- whether the output of a sealing session has the exact length for a piece of n bytes
@@ -104,13 +108,13 @@ sealExact Note n out = eqb out 0
 sealExact Body n out = eqb out n
 sealExact Trailer n out = eqb out 0
 
--- close: 9, 6, 4, 3, before the tag is looked at
-unfoldable pub closeAnswer : Place → ℕ → ℕ → ℕ → Answer
-closeAnswer p revision tagBytes tag =
+-- close: 9, 6, 4, 3, before the tag is looked at; `wanted` is the length of a tag
+unfoldable pub closeAnswer : Place → Edition → ℕ → ℕ → Answer
+closeAnswer p edition wanted tag =
     needOf (soundOf p) NotSound
-    (needOf (eqb revision (p .revision)) OtherRevision
+    (ofEdition edition (p .terms .edition)
     (needOf (withinOf p) OverLimit
-    (needOf (eqb tag tagBytes) TagLength Done)))
+    (needOf (eqb tag wanted) TagLength Done)))
 
 -- what is known of a piece that is accepted
 pub record Accepted (p : Place) (part : Part) (n : ℕ) (exact : Bool) : Type 0 where

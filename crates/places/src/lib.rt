@@ -3,19 +3,34 @@ ghost use mathlib.Core.Path.{_≡_};
 ghost use Prim.Native.Nat.{_+_, _≤_};
 ghost use lib.Dec.{leb};
 ghost use mathlib.Core.Bool.{cond};
-ghost use Rattle.places.specs.Places.{rankOf, limitOf, presentOf, countOf, moved, withinOf, unreachedOf, soundOf, startAnswer, pieceAnswer, closeAnswer, sealExact};
+ghost use Rattle.places.specs.Places.{rankOf, limitOf, presentOf, countOf, freshPlace, closedPlace, moved, withinOf, unreachedOf, soundOf, startAnswer, pieceAnswer, closeAnswer, sealExact};
+use crate::terms::Edition;
+use crate::terms::Terms;
+use crate::terms::of_edition;
+use crate::terms::terms_ok;
 use answers::Answer;
 use answers::need;
-use sealing::checks::lengths_ok;
-use sealing::checks::rounds_ok;
+use rules::LONGEST_BODY;
+use rules::LONGEST_NOTE;
+use rules::LONGEST_TRAILER;
+use rules::lengths_ok;
+use rules::rounds_ok;
 
 pub mod front;
+pub mod terms;
 
 // The parts of a job, in their order.
 pub enum Part {
     Note,
     Body,
     Trailer,
+}
+
+// What a piece says of itself.
+pub struct Label {
+    pub edition: Edition,
+    pub part: Part,
+    pub offset: usize,
 }
 
 // Whether a session takes pieces, and which part they have come to.
@@ -30,8 +45,35 @@ pub struct Place {
     pub note: usize,
     pub body: usize,
     pub trailer: usize,
-    pub rounds: u32,
-    pub revision: u64,
+    pub terms: Terms,
+}
+
+// The place of a closed session: every number in it is zero.
+pub fn closed_place() -> Place
+    ensures { λ r. ⌜ r ≡ closedPlace ⌝ }
+{
+    let edition = Edition { revision: 0 };
+    let terms = Terms { rounds: 0, edition };
+    Place {
+        standing: Standing::Closed,
+        note: 0,
+        body: 0,
+        trailer: 0,
+        terms,
+    }
+}
+
+// Open in the note, with nothing of it yet.
+pub fn fresh_place(terms: Terms) -> Place
+    ensures { λ r. ⌜ r ≡ freshPlace terms ⌝ }
+{
+    Place {
+        standing: Standing::Open(Part::Note),
+        note: 0,
+        body: 0,
+        trailer: 0,
+        terms,
+    }
 }
 
 // The order of the parts.
@@ -59,9 +101,9 @@ fn limit(part: Part) -> usize
     ensures { λ r. ⌜ r ≡ limitOf part ⌝ }
 {
     match part {
-        Part::Note => 65528,
-        Part::Body => 16777216,
-        Part::Trailer => 65536,
+        Part::Note => LONGEST_NOTE,
+        Part::Body => LONGEST_BODY,
+        Part::Trailer => LONGEST_TRAILER,
     }
 }
 
@@ -79,7 +121,7 @@ fn count(p: Place, part: Part) -> usize
 fn within(p: Place) -> bool
     ensures { λ r. ⌜ r ≡ withinOf p ⌝ }
 {
-    (p.note <= 65528) & (p.body <= 16777216) & (p.trailer <= 65536)
+    (p.note <= LONGEST_NOTE) & (p.body <= LONGEST_BODY) & (p.trailer <= LONGEST_TRAILER)
 }
 
 // Whether the parts behind one have no bytes.
@@ -99,7 +141,7 @@ fn sound(p: Place) -> bool
     let standing = p.standing;
     match standing {
         Standing::Closed => false,
-        Standing::Open(part) => rounds_ok(p.rounds) & within(p) & unreached(p, part),
+        Standing::Open(part) => terms_ok(p.terms) & within(p) & unreached(p, part),
     }
 }
 
@@ -125,40 +167,34 @@ pub fn exact(part: Part, n: usize, out: usize) -> bool
 }
 
 // The answer to a start: 2, 1, else 0. row is the length of a key and of a nonce.
-pub fn start_answer(row: usize, rounds: u32, key: usize, nonce: usize) -> Answer
-    ensures { λ r. ⌜ r ≡ startAnswer row rounds key nonce ⌝ }
+pub fn start_answer(row: usize, terms: Terms, key: usize, nonce: usize) -> Answer
+    ensures { λ r. ⌜ r ≡ startAnswer row terms key nonce ⌝ }
 {
     need(
-        rounds_ok(rounds),
+        rounds_ok(terms.rounds),
         Answer::RoundsNumber,
         need(lengths_ok(row, key, nonce), Answer::KeyLength, Answer::Done),
     )
 }
 
 // The answer to a piece of n bytes: 9, 6, 7, 8, 4, 5, else 0.
-pub fn piece_answer(
-    p: Place,
-    revision: u64,
-    part: Part,
-    offset: usize,
-    n: usize,
-    exact: bool,
-) -> Answer
-    ensures { λ r. ⌜ r ≡ pieceAnswer p revision part offset n exact ⌝ }
+pub fn piece_answer(p: Place, label: Label, n: usize, exact: bool) -> Answer
+    ensures { λ r. ⌜ r ≡ pieceAnswer p label n exact ⌝ }
 {
     let standing = p.standing;
+    let part = label.part;
     let had = count(p, part);
     need(
         sound(p),
         Answer::NotSound,
-        need(
-            revision == p.revision,
-            Answer::OtherRevision,
+        of_edition(
+            label.edition,
+            p.terms.edition,
             need(
                 present(standing) <= rank(part),
                 Answer::EarlierPart,
                 need(
-                    offset == had,
+                    label.offset == had,
                     Answer::OtherOffset,
                     need(
                         fits(had, n, limit(part)),
@@ -172,15 +208,15 @@ pub fn piece_answer(
 }
 
 // The answer to a close before the tag is looked at: 9, 6, 4, 3, else 0. wanted is the length of a tag.
-pub fn close_answer(p: Place, revision: u64, wanted: usize, tag: usize) -> Answer
-    ensures { λ r. ⌜ r ≡ closeAnswer p revision wanted tag ⌝ }
+pub fn close_answer(p: Place, edition: Edition, wanted: usize, tag: usize) -> Answer
+    ensures { λ r. ⌜ r ≡ closeAnswer p edition wanted tag ⌝ }
 {
     need(
         sound(p),
         Answer::NotSound,
-        need(
-            revision == p.revision,
-            Answer::OtherRevision,
+        of_edition(
+            edition,
+            p.terms.edition,
             need(
                 within(p),
                 Answer::OverLimit,
@@ -205,24 +241,26 @@ fn taken(p: Place, part: Part, n: usize) -> Place
     requires { ⌜ countOf p part + n ≤ limitOf part ⌝ }
     ensures { λ r. ⌜ r ≡ moved p part n ⌝ }
 {
-    let mut next = Place {
-        standing: Standing::Open(part),
-        note: p.note,
-        body: p.body,
-        trailer: p.trailer,
-        rounds: p.rounds,
-        revision: p.revision,
-    };
+    let standing = Standing::Open(part);
+    let terms = p.terms;
     match part {
-        Part::Note => {
-            next.note = p.note + n;
-        }
-        Part::Body => {
-            next.body = p.body + n;
-        }
-        Part::Trailer => {
-            next.trailer = p.trailer + n;
-        }
+        Part::Note => Place {
+            standing,
+            note: p.note + n,
+            terms,
+            ..p
+        },
+        Part::Body => Place {
+            standing,
+            body: p.body + n,
+            terms,
+            ..p
+        },
+        Part::Trailer => Place {
+            standing,
+            trailer: p.trailer + n,
+            terms,
+            ..p
+        },
     }
-    next
 }

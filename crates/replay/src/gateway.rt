@@ -1,16 +1,18 @@
 // The gateway: each call of a checking session, printed on a line with its answer.
 use crate::job::KEY;
-use crate::job::ROUNDS;
+use crate::job::edition;
+use crate::job::label;
+use crate::job::terms;
 use crate::told::say;
 use crate::told::say_answer;
 use crate::told::say_number;
 use crate::told::say_part;
 use places::Part;
-use session::w64::check::Checking;
-use session::w64::check::CheckingStep;
+use session64::check::Checking;
+use session64::check::CheckingStep;
 
 pub(crate) fn start(nonce: &[u8], revision: u64) -> Checking {
-    let step = Checking::start(&KEY, nonce, ROUNDS, revision);
+    let step = Checking::start(&KEY, nonce, terms(revision));
     say(b"  start a session for ");
     say_number(revision);
     let answer = step.answer;
@@ -26,7 +28,7 @@ pub(crate) fn piece(
     bytes: &[u8],
     name: &[u8],
 ) -> Checking {
-    let step = s.piece(revision, part, offset, bytes);
+    let step = s.piece(label(revision, part, offset), bytes);
     say(b"  ");
     say_number(revision);
     say(b", ");
@@ -41,7 +43,7 @@ pub(crate) fn piece(
 }
 
 pub(crate) fn close(s: Checking, revision: u64, tag: &[u8], name: &[u8]) -> CheckingStep {
-    let step = s.close(revision, tag);
+    let step = s.close(edition(revision), tag);
     say(b"  close under ");
     say_number(revision);
     say(b", ");

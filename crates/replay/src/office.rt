@@ -1,14 +1,16 @@
 // The office: it seals a revision of the job.
 use crate::job::KEY;
 use crate::job::NOTE;
-use crate::job::ROUNDS;
 use crate::job::TRAILER;
+use crate::job::edition;
+use crate::job::label;
+use crate::job::terms;
 use crate::told::say;
 use crate::told::say_number;
 use answers::Answer;
 use answers::number;
 use places::Part;
-use session::w64::seal::Sealing;
+use session64::seal::Sealing;
 
 // Seals a revision, one piece for each part, and prints what the calls answer.
 pub(crate) fn seal(revision: u64, nonce: &[u8], body: &[u8], text: &mut [u8], tag: &mut [u8]) {
@@ -25,14 +27,14 @@ pub(crate) fn seal(revision: u64, nonce: &[u8], body: &[u8], text: &mut [u8], ta
         &TRAILER,
         &mut [0u8; 0],
     );
-    let step = s.close(revision, tag);
+    let step = s.close(edition(revision), tag);
     let answer = step.answer;
     say_call(b", close ", answer);
     say(b"\n");
 }
 
 fn start(nonce: &[u8], revision: u64) -> Sealing {
-    let step = Sealing::start(&KEY, nonce, ROUNDS, revision);
+    let step = Sealing::start(&KEY, nonce, terms(revision));
     let answer = step.answer;
     say_call(b": start ", answer);
     step.session
@@ -46,7 +48,7 @@ fn piece(
     bytes: &[u8],
     out: &mut [u8],
 ) -> Sealing {
-    let step = s.piece(revision, part, 0, bytes, out);
+    let step = s.piece(label(revision, part, 0), bytes, out);
     let answer = step.answer;
     say_call(call, answer);
     step.session

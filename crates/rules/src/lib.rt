@@ -1,7 +1,8 @@
-// The numbers that rule every call, each of them once; w32 and w64 have those of a width.
+// The numbers that rule every call, each of them once; w32 and w64 have those of a width, and calls has what they decide.
 ghost use mathlib.Core.Path.{_≡_};
 ghost use Rattle.rules.specs.Rules.{roundsOk, lengthsOk};
 
+pub mod calls;
 pub mod w32;
 pub mod w64;
 

@@ -7,7 +7,12 @@ pub type State = [Row; 4];
 
 pub const WORD_BITS: u32 = 32;
 
-pub const TAG_BITS: u32 = 128;
+// The words of a start: the width in bits, the parallelism, and the tag bits.
+pub const WIDTH: Word = 32;
+
+pub const PARALLELISM: Word = 1;
+
+pub const TAG_BITS: Word = 128;
 
 // How far G rotates, in the order of its steps.
 pub const R0: u32 = 8;

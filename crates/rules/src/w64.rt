@@ -7,7 +7,12 @@ pub type State = [Row; 4];
 
 pub const WORD_BITS: u32 = 64;
 
-pub const TAG_BITS: u32 = 256;
+// The words of a start: the width in bits, the parallelism, and the tag bits.
+pub const WIDTH: Word = 64;
+
+pub const PARALLELISM: Word = 1;
+
+pub const TAG_BITS: Word = 256;
 
 // How far G rotates, in the order of its steps.
 pub const R0: u32 = 8;

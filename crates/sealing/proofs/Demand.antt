@@ -13,8 +13,9 @@ use Rattle.norx.proofs.Bytes.{Bytes}
 use Rattle.norx.proofs.Opening.{open-sealed, sealed-opened, opened-bytes, refused-unsealed}
 use Rattle.answers.specs.declared.Answer.the-variants.{Done, TagDiffers}
 use Rattle.answers.specs.Answers.{doneOf}
-use Rattle.sealing.specs.Calls.{answerOf, outOf, sealAnswer, sealOut, checked, openAnswer, openOut}
-use Rattle.sealing.proofs.Written.{tag-fits}
+use Rattle.rules.specs.Calls.{answerOf, outOf}
+use Rattle.sealing.specs.Calls.{sealAnswer, sealOut, checked, openAnswer, openOut}
+use Rattle.rules.proofs.Lengths.{tag-fits}
 
 module _ (w : Width) (l : ℕ) (key nonce header text trailer out : List ℕ) where
   -- sealing gives exactly what the definition gives

@@ -1,4 +1,4 @@
-pub mod Lengths
 pub mod Written
 pub mod Demand
+pub mod Widths
 pub mod Unique

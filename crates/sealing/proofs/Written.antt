@@ -4,22 +4,19 @@ use mathlib.Core.Path.{_≡_, refl, sym, ap, ap₂, _∙_}
 use mathlib.Core.Bool.{Bool, cond}
 use mathlib.Core.List.{List, _++_, append-nil}
 use mathlib.Core.Option.{none, some}
-use Prim.Native.Nat.{ℕ, _+_, _-_, _≤_}
+use Prim.Native.Nat.{ℕ, _+_, _-_}
 use native.Mathlib.Omega.{arith}
-use lib.Dec.{eqb, lit≤}
+use lib.Dec.{eqb}
 use lib.ListN.{length, take, drop, replicate, length-append, length-drop}
 use lib.Seq.{length-take-le, drop-at, drop-length}
-use Rattle.norx.specs.Norx.{Width, word32, word64, rowBytes, tagBits, State, rowOf, headerMark, bodyMark, trailerMark, start, afterPart, ciphertext, message, tagOf, beforeBody, tag, sealed, same, recovered, opened}
+use Rattle.norx.specs.Norx.{Width, rowBytes, tagBits, State, rowOf, headerMark, bodyMark, trailerMark, start, afterPart, ciphertext, message, tagOf, beforeBody, tag, sealed, same, recovered, opened}
 use Rattle.norx.specs.Turns.{put}
 use Rattle.norx.proofs.Slices.{put-next, copied, tail}
 use Rattle.norx.proofs.Blocks.{length-ciphertext}
 use Rattle.norx.proofs.Opening.{length-tag}
 use Rattle.answers.proofs.Tests.{cond-equal}
-use Rattle.sealing.specs.Calls.{tagBytes}
-
-pub tag-fits : (w : Width) → tagBytes w ≤ rowBytes w
-tag-fits word32 = lit≤ tt
-tag-fits word64 = lit≤ tt
+use Rattle.rules.specs.Rules.{tagBytes}
+use Rattle.rules.proofs.Lengths.{tag-fits}
 
 -- ciphertext and then tag, each at its place of the output o
 laid : (o c g : List ℕ) {y z e : List ℕ} → length o ≡ length c + length g → y ≡ c → e ≡ g

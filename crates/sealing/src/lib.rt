@@ -1,4 +1,53 @@
-// Sealing and opening in one call, at each width under the same names.
-pub mod checks;
+// Sealing and opening in one call: at each width under the same names, and at a width that is given as a number.
+ghost use mathlib.Core.Path.{_≡_};
+ghost use Rattle.sealing.specs.Widths.{sealAnswerAt, sealOutAt, openAnswerAt, openOutAt};
+use answers::Answer;
+
 pub mod w32;
 pub mod w64;
+
+// Seals a body at the width given as a number; 11, and nothing changed, where the number is not 32 or 64.
+pub fn seal(
+    width: u32,
+    rounds: u32,
+    key: &[u8],
+    nonce: &[u8],
+    header: &[u8],
+    body: &[u8],
+    trailer: &[u8],
+    out: &mut [u8],
+) -> Answer
+    ensures answer { λ r. ⌜ r ≡ sealAnswerAt width rounds (now (key .entry)) (now (nonce .entry)) (now (header .entry)) (now (body .entry)) (now (trailer .entry)) (now (out .entry)) ⌝ }
+    ensures output { λ _. ⌜ now (out .exit) ≡ sealOutAt width rounds (now (key .entry)) (now (nonce .entry)) (now (header .entry)) (now (body .entry)) (now (trailer .entry)) (now (out .entry)) ⌝ }
+{
+    if width == 32 {
+        return w32::seal(rounds, key, nonce, header, body, trailer, out);
+    }
+    if width == 64 {
+        return w64::seal(rounds, key, nonce, header, body, trailer, out);
+    }
+    Answer::WidthNumber
+}
+
+// Opens a sealed text at the width given as a number; 11, and nothing changed, where the number is not 32 or 64.
+pub fn open(
+    width: u32,
+    rounds: u32,
+    key: &[u8],
+    nonce: &[u8],
+    header: &[u8],
+    sealed: &[u8],
+    trailer: &[u8],
+    out: &mut [u8],
+) -> Answer
+    ensures answer { λ r. ⌜ r ≡ openAnswerAt width rounds (now (key .entry)) (now (nonce .entry)) (now (header .entry)) (now (sealed .entry)) (now (trailer .entry)) (now (out .entry)) ⌝ }
+    ensures output { λ _. ⌜ now (out .exit) ≡ openOutAt width rounds (now (key .entry)) (now (nonce .entry)) (now (header .entry)) (now (sealed .entry)) (now (trailer .entry)) (now (out .entry)) ⌝ }
+{
+    if width == 32 {
+        return w32::open(rounds, key, nonce, header, sealed, trailer, out);
+    }
+    if width == 64 {
+        return w64::open(rounds, key, nonce, header, sealed, trailer, out);
+    }
+    Answer::WidthNumber
+}

@@ -1,32 +1,32 @@
 // Sealing and opening in one call at 64-bit words.
 ghost use mathlib.Core.Path.{_≡_};
-ghost use Prim.Native.Nat.{_+_};
 ghost use lib.ListN.{length};
-ghost use Rattle.norx.specs.Norx.{word64, tagBits, headerMark, rowOf, afterPart, start as startOf, sealed as sealedOf, opened};
-ghost use Rattle.sealing.specs.Calls.{answerOf, outOf, sealAnswer, sealOut, openAnswer, openOut};
-use super::checks::open_checks;
-use super::checks::seal_checks;
+ghost use Rattle.norx.specs.Norx.{word64, rowBytes, tagBits, headerMark, rowOf, afterPart, start as startOf, sealed as sealedOf};
+ghost use Rattle.rules.specs.Rules.{tagBytes};
+ghost use Rattle.rules.specs.Calls.{Exact};
+ghost use Rattle.sealing.specs.Calls.{sealAnswer, sealOut, tagAnswer, tagOut, openAnswer, openOut};
 use answers::Answer;
 use answers::done;
-use sponge::w64::ends::row;
-use sponge::w64::ends::start;
-use sponge::w64::ends::tag;
-use sponge::w64::parts::absorb;
-use sponge::w64::parts::decrypt;
-use sponge::w64::parts::encrypt;
+use blocks64::ends::row;
+use blocks64::ends::start;
+use blocks64::ends::tag;
+use rules::HEADER_MARK;
+use rules::TRAILER_MARK;
+use rules::calls::open_checks;
+use rules::calls::seal_checks;
+use rules::w64::*;
+use sponge64::parts::absorb;
+use sponge64::parts::decrypt;
+use sponge64::parts::encrypt;
 use texts::clear;
 use texts::same;
 
-const HEADER: u64 = 0x01;
-
-const TRAILER: u64 = 0x04;
-
 // The state where the body begins.
-fn before_body(rounds: u32, key: [u64; 4], nonce: &[u8], header: &[u8]) -> [[u64; 4]; 4]
-    requires { ⌜ length (now nonce) ≡ 32 ⌝ }
+fn before_body(rounds: u32, key: Row, nonce: &[u8], header: &[u8]) -> State
+    requires { ⌜ length (now nonce) ≡ rowBytes word64 ⌝ }
     ensures { λ r. ⌜ r ≡ afterPart word64 rounds headerMark (startOf word64 rounds (tagBits word64) key (rowOf word64 (now (nonce .entry)))) (now (header .entry)) ⌝ }
 {
-    absorb(start(rounds, key, row(nonce)), rounds, HEADER, header)
+    absorb(start(rounds, key, row(nonce)), rounds, HEADER_MARK, header)
 }
 
 fn seal_checked(
@@ -38,14 +38,14 @@ fn seal_checked(
     trailer: &[u8],
     out: &mut [u8],
 )
-    requires { ⌜ (length (now key) ≡ 32) × (length (now nonce) ≡ 32) × (length (now out) ≡ length (now body) + 32) ⌝ }
+    requires { ⌜ Exact (rowBytes word64) (tagBytes word64) (length (now key)) (length (now nonce)) (length (now body)) (length (now out)) ⌝ }
     ensures { λ _. ⌜ now (out .exit) ≡ sealedOf word64 rounds (tagBits word64) (now (key .entry)) (now (nonce .entry)) (now (header .entry)) (now (body .entry)) (now (trailer .entry)) ⌝ }
 {
     let k = row(key);
     let s = before_body(rounds, k, nonce, header);
     let n = body.len();
     let t = encrypt(s, rounds, body, &mut out[0..n]);
-    let end = tag(rounds, k, absorb(t, rounds, TRAILER, trailer));
+    let end = tag(rounds, k, absorb(t, rounds, TRAILER_MARK, trailer));
     bytes::copy(&end, &mut out[n..]);
 }
 
@@ -63,8 +63,8 @@ pub fn seal(
     ensures output { λ _. ⌜ now (out .exit) ≡ sealOut word64 rounds (now (key .entry)) (now (nonce .entry)) (now (header .entry)) (now (body .entry)) (now (trailer .entry)) (now (out .entry)) ⌝ }
 {
     let answer = seal_checks(
-        32,
-        32,
+        ROW,
+        TAG,
         rounds,
         key.len(),
         nonce.len(),
@@ -88,15 +88,15 @@ fn open_checked(
     trailer: &[u8],
     out: &mut [u8],
 ) -> Answer
-    requires { ⌜ (length (now key) ≡ 32) × (length (now nonce) ≡ 32) × (length (now sealed) ≡ length (now out) + 32) ⌝ }
-    ensures answer { λ r. ⌜ r ≡ answerOf (opened word64 rounds (tagBits word64) (now (key .entry)) (now (nonce .entry)) (now (header .entry)) (now (sealed .entry)) (now (trailer .entry))) ⌝ }
-    ensures output { λ _. ⌜ now (out .exit) ≡ outOf (opened word64 rounds (tagBits word64) (now (key .entry)) (now (nonce .entry)) (now (header .entry)) (now (sealed .entry)) (now (trailer .entry))) (length (now (out .entry))) ⌝ }
+    requires { ⌜ Exact (rowBytes word64) (tagBytes word64) (length (now key)) (length (now nonce)) (length (now out)) (length (now sealed)) ⌝ }
+    ensures answer { λ r. ⌜ r ≡ tagAnswer word64 rounds (now (key .entry)) (now (nonce .entry)) (now (header .entry)) (now (sealed .entry)) (now (trailer .entry)) (now (out .entry)) ⌝ }
+    ensures output { λ _. ⌜ now (out .exit) ≡ tagOut word64 rounds (now (key .entry)) (now (nonce .entry)) (now (header .entry)) (now (sealed .entry)) (now (trailer .entry)) (now (out .entry)) ⌝ }
 {
     let k = row(key);
     let s = before_body(rounds, k, nonce, header);
     let n = out.len();
     let t = decrypt(s, rounds, &sealed[0..n], &mut *out);
-    let end = tag(rounds, k, absorb(t, rounds, TRAILER, trailer));
+    let end = tag(rounds, k, absorb(t, rounds, TRAILER_MARK, trailer));
     if same(&sealed[n..], &end) {
         return Answer::Done;
     }
@@ -118,8 +118,8 @@ pub fn open(
     ensures output { λ _. ⌜ now (out .exit) ≡ openOut word64 rounds (now (key .entry)) (now (nonce .entry)) (now (header .entry)) (now (sealed .entry)) (now (trailer .entry)) (now (out .entry)) ⌝ }
 {
     let answer = open_checks(
-        32,
-        32,
+        ROW,
+        TAG,
         rounds,
         key.len(),
         nonce.len(),

@@ -9,29 +9,30 @@ use native.Mathlib.Omega.{arith}
 use borrow.Author.Tests.{eqb-true}
 use lib.Dec.{leb, eqb}
 use lib.ListN.{length, length-append}
-use Rattle.norx.specs.Norx.{Width, State, rowOf, headerMark, bodyMark, trailerMark, start, bytesOf}
-use Rattle.norx.specs.Front.{front, frontBytes}
+use Rattle.norx.specs.Norx.{Width, State, headerMark, bodyMark, trailerMark}
+use Rattle.norx.specs.Front.{frontBytes}
 use Rattle.norx.specs.Stream.{fed, ended, fedText, unfed}
 use Rattle.norx.proofs.Stream.{fed-append}
 use Rattle.norx.proofs.Text.{text-append}
 use Rattle.norx.proofs.Unseal.{unfed-append}
 use Rattle.norx.proofs.Checked.{length-unfed}
 use Rattle.answers.proofs.Chain.{both}
-use Rattle.sealing.specs.Calls.{roundsOk}
+use Rattle.places.specs.declared.terms.Terms.{Terms}
 use Rattle.places.specs.declared.Part.{Part}
 use Rattle.places.specs.declared.Part.the-variants.{Note, Body, Trailer}
+use Rattle.places.specs.Terms.{termsOk, frontOf}
 use Rattle.places.specs.Places.{rankOf, moved, withinOf, unreachedOf, soundOf}
+use Rattle.places.proofs.Editions.{front-long}
 use Rattle.session.specs.Sessions.{Way, sealing, checking, taken, endIf, readied, takenAt, Kind}
-use Rattle.session.specs.Offered.{only, placeIn, inNote, afterNote, inBody, afterBody, stateIn}
+use Rattle.session.specs.Offered.{only, placeIn, headerOf, begunState, inNote, afterNote, inBody, afterBody, stateIn}
 
-pub front-long : (r : ℕ) (note : List ℕ) → length (front r ++ note) ≡ frontBytes + length note
-unfolding front bytesOf
-front-long r note = length-append (front r) note
+pub header-long : (T : Terms) (note : List ℕ) → length (headerOf T note) ≡ frontBytes + length note
+header-long T note = length-append (frontOf (T .edition)) note ∙ ap (λ (k : ℕ). k + length note) (front-long (T .edition))
 
 -- what a sound place says of the parts not yet reached
-pub unreached : (l r : ℕ) (part : Part) (n b t : List ℕ) → soundOf (placeIn l r part n b t) ≡ true → unreachedOf (placeIn l r part n b t) part ≡ true
+pub unreached : (T : Terms) (part : Part) (n b t : List ℕ) → soundOf (placeIn T part n b t) ≡ true → unreachedOf (placeIn T part n b t) part ≡ true
 unfolding soundOf
-unreached l r part n b t e = both (roundsOk l && withinOf (placeIn l r part n b t)) (unreachedOf (placeIn l r part n b t) part) e .1
+unreached T part n b t e = both (termsOk T && withinOf (placeIn T part n b t)) (unreachedOf (placeIn T part n b t) part) e .1
 
 pub some-bytes : (y : ℕ) (b : List ℕ) → eqb (length (y ∷ b)) 0 ≡ true → ⊥
 some-bytes y b e = let z : length (y ∷ b) ≡ 0 = eqb-true (length (y ∷ b)) 0 e in omega arith
@@ -67,34 +68,37 @@ module _ (w : Width) (l : ℕ) where
 
 -- ---- the place
 
-module _ (l r : ℕ) where
+module _ (T : Terms) where
   pub moved-place : (part : Part) (n b t : List ℕ) (k : Part) (x : List ℕ)
-      → moved (placeIn l r part n b t) k (length x) ≡ placeIn l r k (n ++ only Note k x) (b ++ only Body k x) (t ++ only Trailer k x)
+      → moved (placeIn T part n b t) k (length x) ≡ placeIn T k (n ++ only Note k x) (b ++ only Body k x) (t ++ only Trailer k x)
   moved-place part n b t Note x = rw (append-nil, append-nil, length-append)
   moved-place part n b t Body x = rw (append-nil, append-nil, length-append)
   moved-place part n b t Trailer x = rw (append-nil, append-nil, length-append)
 
 -- ---- the state
 
-module _ (K : Kind) (key nonce : List ℕ) (l r : ℕ) where
+module _ (K : Kind) (key nonce : List ℕ) (T : Terms) where
   abbrev w : Width
   w = K .width
 
+  abbrev l : ℕ
+  l = T .rounds
+
   abbrev S : Part → List ℕ → List ℕ → List ℕ → State
-  S = stateIn K key nonce l r
+  S = stateIn K key nonce T
 
   abbrev went : Part → List ℕ → List ℕ → List ℕ → Part → List ℕ → State
-  went part n b t k x = takenAt w l (K .way) (placeIn l r part n b t) k x (S part n b t)
+  went part n b t k x = takenAt w (placeIn T part n b t) (K .way) k x (S part n b t)
 
   -- the note goes on
   note-note : (n x : List ℕ) → went Note n [] [] Note x ≡ S Note (n ++ x) [] []
   unfolding takenAt readied endIf taken
   note-note n x =
-      fed-more w l headerMark (start w l (K .tagBits) (rowOf w key) (rowOf w nonce)) (front r ++ n) x (frontBytes + length n) (sym (front-long r n))
-      ∙ ap (fed w l headerMark (start w l (K .tagBits) (rowOf w key) (rowOf w nonce)) 0) (append-assoc (front r) n x)
+      fed-more w l headerMark (begunState K key nonce T) (headerOf T n) x (frontBytes + length n) (sym (header-long T n))
+      ∙ ap (fed w l headerMark (begunState K key nonce T) 0) (append-assoc (frontOf (T .edition)) n x)
 
-  pub ended-note : (n : List ℕ) → ended w l headerMark (inNote K key nonce l r n) (frontBytes + length n) ≡ afterNote K key nonce l r n
-  ended-note n = ap (ended w l headerMark (inNote K key nonce l r n)) (sym (front-long r n))
+  pub ended-note : (n : List ℕ) → ended w l headerMark (inNote K key nonce T n) (frontBytes + length n) ≡ afterNote K key nonce T n
+  ended-note n = ap (ended w l headerMark (inNote K key nonce T n)) (sym (header-long T n))
 
   note-body : (n x : List ℕ) → went Note n [] [] Body x ≡ S Body n x []
   unfolding takenAt readied endIf
@@ -104,11 +108,11 @@ module _ (K : Kind) (key nonce : List ℕ) (l r : ℕ) where
   unfolding takenAt readied endIf taken
   note-trailer n x =
       ap (λ (s : State). fed w l trailerMark s 0 x)
-      (ended-none w l bodyMark _ ∙ ended-note n ∙ sym (taken-none w l (K .way) (afterNote K key nonce l r n)) ∙ sym (ended-none w l bodyMark (inBody K key nonce l r n [])))
+      (ended-none w l bodyMark _ ∙ ended-note n ∙ sym (taken-none w l (K .way) (afterNote K key nonce T n)) ∙ sym (ended-none w l bodyMark (inBody K key nonce T n [])))
 
   body-body : (n b x : List ℕ) → went Body n b [] Body x ≡ S Body n (b ++ x) []
   unfolding takenAt readied endIf
-  body-body n b x = taken-more w l (K .way) (afterNote K key nonce l r n) b x
+  body-body n b x = taken-more w l (K .way) (afterNote K key nonce T n) b x
 
   body-trailer : (n b x : List ℕ) → went Body n b [] Trailer x ≡ S Trailer n b x
   unfolding takenAt readied endIf taken
@@ -116,20 +120,20 @@ module _ (K : Kind) (key nonce : List ℕ) (l r : ℕ) where
 
   trailer-trailer : (n b t x : List ℕ) → went Trailer n b t Trailer x ≡ S Trailer n b (t ++ x)
   unfolding takenAt readied endIf taken
-  trailer-trailer n b t x = fed-more w l trailerMark (afterBody K key nonce l r n b) t x (length t) refl
+  trailer-trailer n b t x = fed-more w l trailerMark (afterBody K key nonce T n b) t x (length t) refl
 
-  pub moved-state : (part : Part) (n b t : List ℕ) (k : Part) (x : List ℕ) → soundOf (placeIn l r part n b t) ≡ true → leb (rankOf part) (rankOf k) ≡ true
-      → takenAt (K .width) l (K .way) (placeIn l r part n b t) k x (stateIn K key nonce l r part n b t)
-      ≡ stateIn K key nonce l r k (n ++ only Note k x) (b ++ only Body k x) (t ++ only Trailer k x)
+  pub moved-state : (part : Part) (n b t : List ℕ) (k : Part) (x : List ℕ) → soundOf (placeIn T part n b t) ≡ true → leb (rankOf part) (rankOf k) ≡ true
+      → takenAt (K .width) (placeIn T part n b t) (K .way) k x (stateIn K key nonce T part n b t)
+      ≡ stateIn K key nonce T k (n ++ only Note k x) (b ++ only Body k x) (t ++ only Trailer k x)
   moved-state Note n [] [] Note x e o = note-note n x
   moved-state Note n [] [] Body x e o = rw append-nil (note-body n x)
   moved-state Note n [] [] Trailer x e o = rw append-nil (note-trailer n x)
-  moved-state Note n (y ∷ b) t k x e o = absurd (some-bytes y b (both (eqb (length (y ∷ b)) 0) (eqb (length t) 0) (unreached l r Note n (y ∷ b) t e) .0))
-  moved-state Note n [] (y ∷ t) k x e o = absurd (some-bytes y t (unreached l r Note n [] (y ∷ t) e))
+  moved-state Note n (y ∷ b) t k x e o = absurd (some-bytes y b (both (eqb (length (y ∷ b)) 0) (eqb (length t) 0) (unreached T Note n (y ∷ b) t e) .0))
+  moved-state Note n [] (y ∷ t) k x e o = absurd (some-bytes y t (unreached T Note n [] (y ∷ t) e))
   moved-state Body n b [] Note x e o = absurd (false≢true o)
   moved-state Body n b [] Body x e o = rw append-nil (body-body n b x)
   moved-state Body n b [] Trailer x e o = rw (append-nil, append-nil) (body-trailer n b x)
-  moved-state Body n b (y ∷ t) k x e o = absurd (some-bytes y t (unreached l r Body n b (y ∷ t) e))
+  moved-state Body n b (y ∷ t) k x e o = absurd (some-bytes y t (unreached T Body n b (y ∷ t) e))
   moved-state Trailer n b t Note x e o = absurd (false≢true o)
   moved-state Trailer n b t Body x e o = absurd (false≢true o)
   moved-state Trailer n b t Trailer x e o = rw (append-nil, append-nil) (trailer-trailer n b t x)

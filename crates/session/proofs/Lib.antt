@@ -7,5 +7,3 @@ pub mod Held
 pub mod Wrote
 pub mod Whole
 pub mod Demand
-pub mod Four
-pub mod Unique

@@ -4,15 +4,16 @@ use mathlib.Core.Path.{_≡_, refl, sym, ap, ap₂, _∙_}
 use mathlib.Core.Bool.{true, false}
 use mathlib.Core.Logic.{_⊎_, ⊎-elim}
 use mathlib.Core.List.{List, [], _∷_, _++_}
-use Prim.Native.Nat.{ℕ, _/_}
+use Prim.Native.Nat.{ℕ}
 use lib.ListN.{length}
 use Rattle.answers.specs.declared.Answer.{Answer}
 use Rattle.answers.specs.declared.Answer.the-variants.{NotSound}
 use Rattle.answers.specs.Answers.{doneOf, needOf}
 use Rattle.answers.proofs.Tests.{either, cond-true, cond-false}
+use Rattle.places.specs.declared.terms.Edition.{Edition}
 use Rattle.places.specs.declared.Place.{Place}
 use Rattle.places.specs.Places.{soundOf, pieceAnswer, closeAnswer}
-use Rattle.session.specs.Sessions.{exactOf, Kind, closedOf, pieceAnswerOf, pieceOf, pieceOut, closeAnswerOf, closeOf, closeTag}
+use Rattle.session.specs.Sessions.{exactOf, Kind, closedOf, tagLength, pieceAnswerOf, pieceOf, pieceOut, closeAnswerOf, closeOf, closeTag}
 use Rattle.session.specs.Offered.{Piece, callOf, isTaken, afterPiece, afterAll, accepted, wrote, wroteAll}
 use Rattle.session.specs.Promises.{RefusedNothing, WithoutRefused}
 
@@ -26,7 +27,7 @@ pub record Lawful (K : Kind) : Type 0 where
 
 module _ (K : Kind) (L : Lawful K) where
   abbrev pub answerTo : K .Session → Piece → Answer
-  answerTo s q = pieceAnswerOf K s (q .revision) (q .part) (q .offset) (q .bytes) (q .out)
+  answerTo s q = pieceAnswerOf K s (q .label) (q .bytes) (q .out)
 
   answer-is : (s : K .Session) (q : Piece) → K .answer (callOf K s q) ≡ answerTo s q
   unfolding pieceOf
@@ -72,10 +73,10 @@ module _ (K : Kind) (L : Lawful K) where
 
   -- ---- a close that is refused before its tag is looked at
 
-  pub refused-close : (s : K .Session) (revision : ℕ) (tag : List ℕ) → doneOf (closeAnswerOf K s revision tag) ≡ false
-      → (K .answer (closeOf K s revision tag) ≡ closeAnswerOf K s revision tag) × (K .next (closeOf K s revision tag) ≡ s) × (closeTag K s revision tag ≡ tag)
+  pub refused-close : (s : K .Session) (edition : Edition) (tag : List ℕ) → doneOf (closeAnswerOf K s edition tag) ≡ false
+      → (K .answer (closeOf K s edition tag) ≡ closeAnswerOf K s edition tag) × (K .next (closeOf K s edition tag) ≡ s) × (closeTag K s edition tag ≡ tag)
   unfolding closeOf closeTag
-  refused-close s revision tag h = (
+  refused-close s edition tag h = (
     ap (λ (x : K .Step). K .answer x) (cond-false _ _ _ h) ∙ L .answered _ _,
     ap (λ (x : K .Step). K .next x) (cond-false _ _ _ h) ∙ L .stepped _ _,
     cond-false _ _ _ h,
@@ -87,8 +88,8 @@ module _ (K : Kind) (L : Lawful K) where
   unfolding pieceAnswerOf pieceAnswer soundOf needOf
   closed-piece q =
       answer-is (closedOf K) q
-      ∙ ap (λ (p : Place). pieceAnswer p (q .revision) (q .part) (q .offset) (length (q .bytes)) (exactOf (K .way) (q .part) (length (q .bytes)) (length (q .out)))) (L .placed _ _ _)
+      ∙ ap (λ (p : Place). pieceAnswer p (q .label) (length (q .bytes)) (exactOf (K .way) (q .label .part) (length (q .bytes)) (length (q .out)))) (L .placed _ _ _)
 
-  pub closed-close : (revision : ℕ) (tag : List ℕ) → closeAnswerOf K (closedOf K) revision tag ≡ NotSound
+  pub closed-close : (edition : Edition) (tag : List ℕ) → closeAnswerOf K (closedOf K) edition tag ≡ NotSound
   unfolding closeAnswerOf closeAnswer soundOf needOf
-  closed-close revision tag = ap (λ (p : Place). closeAnswer p revision (K .tagBits / 8) (length tag)) (L .placed _ _ _)
+  closed-close edition tag = ap (λ (p : Place). closeAnswer p edition (tagLength K) (length tag)) (L .placed _ _ _)

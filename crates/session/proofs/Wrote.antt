@@ -13,6 +13,7 @@ use Rattle.norx.specs.Stream.{fedText}
 use Rattle.norx.proofs.Slices.{empty}
 use Rattle.answers.proofs.Tests.{either, cond-true, cond-false}
 use Rattle.answers.proofs.Chain.{both}
+use Rattle.places.specs.declared.terms.Terms.{Terms}
 use Rattle.places.specs.declared.Part.{Part}
 use Rattle.places.specs.declared.Part.the-variants.{Note, Body, Trailer}
 use Rattle.places.specs.declared.Place.{Place}
@@ -23,23 +24,23 @@ use Rattle.session.proofs.Joining.{unreached, some-bytes, text-more, en
 use Rattle.session.proofs.Refused.{Lawful, taken-answer, refused-session}
 use Rattle.session.proofs.Held.{at, place-held, state-held, accepted-held, one-taken, andPiece, taken-list, refused-list}
 
-module _ (K : Kind) (seals : K .way ≡ sealing) (key nonce : List ℕ) (l r : ℕ) where
+module _ (K : Kind) (seals : K .way ≡ sealing) (key nonce : List ℕ) (T : Terms) where
   -- the ciphertext of a body behind a note
   abbrev pub cipher : List ℕ → List ℕ → List ℕ
-  cipher n b = fedText (K .width) l (afterNote K key nonce l r n) 0 b
+  cipher n b = fedText (K .width) (T .rounds) (afterNote K key nonce T n) 0 b
 
   abbrev left : Part → List ℕ → List ℕ → List ℕ → Part → List ℕ → List ℕ → List ℕ
-  left part n b t k x out = writtenAt (K .width) l sealing (placeIn l r part n b t) k x (stateIn K key nonce l r part n b t) out
+  left part n b t k x out = writtenAt (K .width) (placeIn T part n b t) sealing k x (stateIn K key nonce T part n b t) out
 
   body-begun : (n x out : List ℕ) → cipher n [] ++ left Note n [] [] Body x out ≡ cipher n x
   unfolding fedText readied endIf
-  body-begun n x out = ap (λ (s : State). fedText (K .width) l s 0 x) (ended-note K key nonce l r n)
+  body-begun n x out = ap (λ (s : State). fedText (K .width) (T .rounds) s 0 x) (ended-note K key nonce T n)
 
   body-on : (n b x out : List ℕ) → cipher n b ++ left Body n b [] Body x out ≡ cipher n (b ++ x)
   unfolding readied endIf taken
   body-on n b x out =
-      ap (λ (way : Way). cipher n b ++ fedText (K .width) l (taken (K .width) l way Body (afterNote K key nonce l r n) 0 b) (length b) x) seals
-      ∙ text-more (K .width) l (afterNote K key nonce l r n) b x
+      ap (λ (way : Way). cipher n b ++ fedText (K .width) (T .rounds) (taken (K .width) (T .rounds) way Body (afterNote K key nonce T n) 0 b) (length b) x) seals
+      ∙ text-more (K .width) (T .rounds) (afterNote K key nonce T n) b x
 
   note-on : (n x out : List ℕ) → out ≡ [] → cipher n [] ++ out ≡ cipher (n ++ x) []
   unfolding fedText
@@ -48,54 +49,54 @@ module _ (K : Kind) (seals : K .way ≡ sealing) (key nonce : List ℕ) (l r : �
   none-more : (n b out : List ℕ) → out ≡ [] → cipher n b ++ out ≡ cipher (n ++ []) (b ++ [])
   none-more n b out e = ap (λ (o : List ℕ). cipher n b ++ o) e ∙ append-nil (cipher n b) ∙ sym (ap₂ cipher (append-nil n) (append-nil b))
 
-  one-left : (part : Part) (n b t : List ℕ) (k : Part) (x out : List ℕ) → soundOf (placeIn l r part n b t) ≡ true → leb (rankOf part) (rankOf k) ≡ true
+  one-left : (part : Part) (n b t : List ℕ) (k : Part) (x out : List ℕ) → soundOf (placeIn T part n b t) ≡ true → leb (rankOf part) (rankOf k) ≡ true
       → sealExact k (length x) (length out) ≡ true → cipher n b ++ left part n b t k x out ≡ cipher (n ++ only Note k x) (b ++ only Body k x)
   one-left Note n [] [] Note x out e o f = note-on n x out (empty out (eqb-true (length out) 0 f))
   one-left Note n [] [] Body x out e o f = rw append-nil (body-begun n x out)
   one-left Note n [] [] Trailer x out e o f = none-more n [] out (empty out (eqb-true (length out) 0 f))
-  one-left Note n (y ∷ b) t k x out e o f = absurd (some-bytes y b (both (eqb (length (y ∷ b)) 0) (eqb (length t) 0) (unreached l r Note n (y ∷ b) t e) .0))
-  one-left Note n [] (y ∷ t) k x out e o f = absurd (some-bytes y t (unreached l r Note n [] (y ∷ t) e))
+  one-left Note n (y ∷ b) t k x out e o f = absurd (some-bytes y b (both (eqb (length (y ∷ b)) 0) (eqb (length t) 0) (unreached T Note n (y ∷ b) t e) .0))
+  one-left Note n [] (y ∷ t) k x out e o f = absurd (some-bytes y t (unreached T Note n [] (y ∷ t) e))
   one-left Body n b [] Note x out e o f = absurd (false≢true o)
   one-left Body n b [] Body x out e o f = rw append-nil (body-on n b x out)
   one-left Body n b [] Trailer x out e o f = none-more n b out (empty out (eqb-true (length out) 0 f))
-  one-left Body n b (y ∷ t) k x out e o f = absurd (some-bytes y t (unreached l r Body n b (y ∷ t) e))
+  one-left Body n b (y ∷ t) k x out e o f = absurd (some-bytes y t (unreached T Body n b (y ∷ t) e))
   one-left Trailer n b t Note x out e o f = absurd (false≢true o)
   one-left Trailer n b t Body x out e o f = absurd (false≢true o)
   one-left Trailer n b t Trailer x out e o f = none-more n b out (empty out (eqb-true (length out) 0 f))
 
   module _ (L : Lawful K) where
-    one-wrote : (part : Part) (n b t : List ℕ) (q : Piece) → isTaken K (at K L key nonce l r part n b t) q ≡ true
-        → cipher n b ++ wrote K (at K L key nonce l r part n b t) q ≡ cipher (n ++ only Note (q .part) (q .bytes)) (b ++ only Body (q .part) (q .bytes))
+    one-wrote : (part : Part) (n b t : List ℕ) (q : Piece) → isTaken K (at K L key nonce T part n b t) q ≡ true
+        → cipher n b ++ wrote K (at K L key nonce T part n b t) q ≡ cipher (n ++ only Note (q .label .part) (q .bytes)) (b ++ only Body (q .label .part) (q .bytes))
     unfolding pieceOut
     one-wrote part n b t q h =
-        let s : K .Session = at K L key nonce l r part n b t in
-        let a = accepted-held K L key nonce l r part n b t q h in
-        let fits : sealExact (q .part) (length (q .bytes)) (length (q .out)) ≡ true = sym (ap (λ (way : Way). exactOf way (q .part) (length (q .bytes)) (length (q .out))) seals) ∙ a .fits in
-        let o : wrote K s q ≡ left part n b t (q .part) (q .bytes) (q .out) =
+        let s : K .Session = at K L key nonce T part n b t in
+        let a = accepted-held K L key nonce T part n b t q h in
+        let fits : sealExact (q .label .part) (length (q .bytes)) (length (q .out)) ≡ true = sym (ap (λ (way : Way). exactOf way (q .label .part) (length (q .bytes)) (length (q .out))) seals) ∙ a .fits in
+        let o : wrote K s q ≡ left part n b t (q .label .part) (q .bytes) (q .out) =
         cond-true (isTaken K s q) _ [] h ∙ cond-true _ _ (q .out) (sym (taken-answer K L s q) ∙ h)
-        ∙ ap (λ (p : Place). writtenAt (K .width) (p .rounds) (K .way) p (q .part) (q .bytes) (stateOf K s) (q .out)) (place-held K L key nonce l r part n b t)
-        ∙ ap₂ (λ (u : State) (way : Way). writtenAt (K .width) l way (placeIn l r part n b t) (q .part) (q .bytes) u (q .out)) (state-held K L key nonce l r part n b t) seals in
-        ap (λ (y : List ℕ). cipher n b ++ y) o ∙ one-left part n b t (q .part) (q .bytes) (q .out) (a .sound) (a .onward) fits
+        ∙ ap (λ (p : Place). writtenAt (K .width) p (K .way) (q .label .part) (q .bytes) (stateOf K s) (q .out)) (place-held K L key nonce T part n b t)
+        ∙ ap₂ (λ (u : State) (way : Way). writtenAt (K .width) (placeIn T part n b t) way (q .label .part) (q .bytes) u (q .out)) (state-held K L key nonce T part n b t) seals in
+        ap (λ (y : List ℕ). cipher n b ++ y) o ∙ one-left part n b t (q .label .part) (q .bytes) (q .out) (a .sound) (a .onward) fits
 
     pub all-wrote : (qs : List Piece) (part : Part) (n b t : List ℕ)
-        → cipher n b ++ wroteAll K (at K L key nonce l r part n b t) qs
-        ≡ cipher (n ++ joined Note (accepted K (at K L key nonce l r part n b t) qs)) (b ++ joined Body (accepted K (at K L key nonce l r part n b t) qs))
+        → cipher n b ++ wroteAll K (at K L key nonce T part n b t) qs
+        ≡ cipher (n ++ joined Note (accepted K (at K L key nonce T part n b t) qs)) (b ++ joined Body (accepted K (at K L key nonce T part n b t) qs))
     all-wrote [] part n b t = append-nil (cipher n b) ∙ sym (ap₂ cipher (append-nil n) (append-nil b))
     all-wrote (q ∷ qs) part n b t =
-        let s : K .Session = at K L key nonce l r part n b t in
-        let n′ : List ℕ = n ++ only Note (q .part) (q .bytes) in
-        let b′ : List ℕ = b ++ only Body (q .part) (q .bytes) in
-        let t′ : List ℕ = t ++ only Trailer (q .part) (q .bytes) in
-        let u : K .Session = andPiece K L key nonce l r part n b t q in
+        let s : K .Session = at K L key nonce T part n b t in
+        let n′ : List ℕ = n ++ only Note (q .label .part) (q .bytes) in
+        let b′ : List ℕ = b ++ only Body (q .label .part) (q .bytes) in
+        let t′ : List ℕ = t ++ only Trailer (q .label .part) (q .bytes) in
+        let u : K .Session = andPiece K L key nonce T part n b t q in
         ⊎-elim
         (λ (h : isTaken K s q ≡ true).
         sym (append-assoc (cipher n b) (wrote K s q) (wroteAll K (afterPiece K s q) qs))
-        ∙ ap₂ (λ (y : List ℕ) (v : K .Session). y ++ wroteAll K v qs) (one-wrote part n b t q h) (one-taken K L key nonce l r part n b t q h)
-        ∙ all-wrote qs (q .part) n′ b′ t′
-        ∙ ap₂ cipher (append-assoc n (only Note (q .part) (q .bytes)) (joined Note (accepted K u qs))) (append-assoc b (only Body (q .part) (q .bytes)) (joined Body (accepted K u qs)))
-        ∙ ap (λ (qs′ : List Piece). cipher (n ++ joined Note qs′) (b ++ joined Body qs′)) (taken-list K L key nonce l r part n b t q qs h))
+        ∙ ap₂ (λ (y : List ℕ) (v : K .Session). y ++ wroteAll K v qs) (one-wrote part n b t q h) (one-taken K L key nonce T part n b t q h)
+        ∙ all-wrote qs (q .label .part) n′ b′ t′
+        ∙ ap₂ cipher (append-assoc n (only Note (q .label .part) (q .bytes)) (joined Note (accepted K u qs))) (append-assoc b (only Body (q .label .part) (q .bytes)) (joined Body (accepted K u qs)))
+        ∙ ap (λ (qs′ : List Piece). cipher (n ++ joined Note qs′) (b ++ joined Body qs′)) (taken-list K L key nonce T part n b t q qs h))
         (λ (h : isTaken K s q ≡ false).
         ap₂ (λ (y : List ℕ) (v : K .Session). cipher n b ++ (y ++ wroteAll K v qs)) (cond-false (isTaken K s q) _ [] h) (refused-session K L s q h)
         ∙ all-wrote qs part n b t
-        ∙ ap (λ (qs′ : List Piece). cipher (n ++ joined Note qs′) (b ++ joined Body qs′)) (refused-list K L key nonce l r part n b t q qs h))
+        ∙ ap (λ (qs′ : List Piece). cipher (n ++ joined Note qs′) (b ++ joined Body qs′)) (refused-list K L key nonce T part n b t q qs h))
         (either (isTaken K s q))

@@ -1,4 +1,3 @@
 pub mod Sessions
-pub mod Kinds
 pub mod Offered
 pub mod Promises

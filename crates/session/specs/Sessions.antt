@@ -6,14 +6,17 @@ use mathlib.Core.List.{List, [], _∷_}
 use lib.ListN.{length, replicate}
 use lib.Dec.{ltb, leb}
 use Rattle.norx.specs.Norx.{Width, rowBytes, State, row, rows, wordAt, rowAt, rowOf, headerMark, bodyMark, trailerMark, start, tagOf, same}
-use Rattle.norx.specs.Front.{front}
 use Rattle.norx.specs.Stream.{fed, ended, fedText, unfed}
 use Rattle.answers.specs.declared.Answer.{Answer}
 use Rattle.answers.specs.declared.Answer.the-variants.{Done, TagDiffers}
 use Rattle.answers.specs.Answers.{doneOf, needOf}
+use Rattle.places.specs.declared.terms.Edition.{Edition}
+use Rattle.places.specs.declared.terms.Terms.{Terms}
 use Rattle.places.specs.declared.Part.{Part}
 use Rattle.places.specs.declared.Part.the-variants.{Note, Body, Trailer}
+use Rattle.places.specs.declared.Label.{Label}
 use Rattle.places.specs.declared.Place.{Place}
+use Rattle.places.specs.Terms.{frontOf}
 use Rattle.places.specs.Places.{rankOf, markOf, presentOf, fedOf, freshPlace, closedPlace, moved, startAnswer, pieceAnswer, sealExact, closeAnswer}
 
 -- a session seals messages, or checks ciphertext against a tag
@@ -38,6 +41,10 @@ flatOf s =
 
 -- ---- What pieces and ends do to the state
 
+-- the state that a session starts with, from the words of its key and its nonce: the front is taken in ahead of the note
+abbrev pub freshState : Width → ℕ → Terms → List ℕ → List ℕ → State
+freshState w t T key nonce = fed w (T .rounds) headerMark (start w (T .rounds) t key nonce) 0 (frontOf (T .edition))
+
 module _ (w : Width) (l : ℕ) where
   -- the message that a piece brings, after n bytes of its part: the piece itself, or what it is the ciphertext of
   abbrev pub brought : Part → Way → State → ℕ → List ℕ → List ℕ
@@ -53,25 +60,28 @@ module _ (w : Width) (l : ℕ) where
   unfoldable pub endIf : ℕ → Bool → State → ℕ → State
   endIf m ok s n = cond ok (ended w l m s n) s
 
+module _ (w : Width) (p : Place) where
   -- the parts from the present one on are ended, up to the one of rank `next`
-  unfoldable pub readied : Place → ℕ → State → State
-  readied p next s =
-      endIf trailerMark (leb (presentOf (p .standing)) 2 && ltb 2 next)
-      (endIf bodyMark (leb (presentOf (p .standing)) 1 && ltb 1 next)
-      (endIf headerMark (leb (presentOf (p .standing)) 0 && ltb 0 next) s (fedOf p Note))
+  unfoldable pub readied : ℕ → State → State
+  readied next s =
+      let from = presentOf (p .standing) in
+      let l = p .terms .rounds in
+      endIf w l trailerMark (leb from 2 && ltb 2 next)
+      (endIf w l bodyMark (leb from 1 && ltb 1 next)
+      (endIf w l headerMark (leb from 0 && ltb 0 next) s (fedOf p Note))
       (fedOf p Body))
       (fedOf p Trailer)
 
   -- a piece at a place: the parts before it are ended, and it is taken in
-  unfoldable pub takenAt : Way → Place → Part → List ℕ → State → State
-  takenAt way p part x s = taken way part (readied p (rankOf part) s) (fedOf p part) x
+  unfoldable pub takenAt : Way → Part → List ℕ → State → State
+  takenAt way part x s = taken w (p .terms .rounds) way part (readied (rankOf part) s) (fedOf p part) x
 
   -- what the output then holds: the ciphertext of a body piece that is sealed
-  abbrev pub writtenAt : Way → Place → Part → List ℕ → State → List ℕ → List ℕ
-  writtenAt sealing p Note x s out = out
-  writtenAt sealing p Body x s out = fedText w l (readied p (rankOf Body) s) (fedOf p Body) x
-  writtenAt sealing p Trailer x s out = out
-  writtenAt checking p part x s out = out
+  abbrev pub writtenAt : Way → Part → List ℕ → State → List ℕ → List ℕ
+  writtenAt sealing Note x s out = out
+  writtenAt sealing Body x s out = fedText w (p .terms .rounds) (readied (rankOf Body) s) (fedOf p Body) x
+  writtenAt sealing Trailer x s out = out
+  writtenAt checking part x s out = out
 
 -- whether an output has the exact length for a piece of n bytes; a checking session takes none
 abbrev pub exactOf : Way → Part → ℕ → ℕ → Bool
@@ -109,53 +119,60 @@ module _ (K : Kind) where
   abbrev pub stateOf : K .Session → State
   stateOf s = rowsOf (K .words s)
 
+  -- the bytes of a tag
+  abbrev pub tagLength : ℕ
+  tagLength = K .tagBits / 8
+
   -- ---- start
 
-  unfoldable pub freshOf : List ℕ → List ℕ → ℕ → ℕ → K .Session
-  freshOf key nonce l r =
-      K .make (freshPlace l r) (flatOf (fed (K .width) l headerMark (start (K .width) l (K .tagBits) (rowOf (K .width) key) (rowOf (K .width) nonce)) 0 (front r)))
-      (rowOf (K .width) key)
+  unfoldable pub freshOf : List ℕ → List ℕ → Terms → K .Session
+  freshOf key nonce T =
+      let k = rowOf (K .width) key in
+      K .make (freshPlace T) (flatOf (freshState (K .width) (K .tagBits) T k (rowOf (K .width) nonce))) k
 
-  unfoldable pub startOf : List ℕ → List ℕ → ℕ → ℕ → K .Step
-  startOf key nonce l r =
-      let a = startAnswer (rowBytes (K .width)) l (length key) (length nonce) in
-      K .step a (cond (doneOf a) (freshOf key nonce l r) closedOf)
+  unfoldable pub startOf : List ℕ → List ℕ → Terms → K .Step
+  startOf key nonce T =
+      let a = startAnswer (rowBytes (K .width)) T (length key) (length nonce) in
+      K .step a (cond (doneOf a) (freshOf key nonce T) closedOf)
 
   -- ---- piece
 
-  unfoldable pub pieceAnswerOf : K .Session → ℕ → Part → ℕ → List ℕ → List ℕ → Answer
-  pieceAnswerOf s revision part offset x out =
-      pieceAnswer (K .place s) revision part offset (length x) (exactOf (K .way) part (length x) (length out))
+  unfoldable pub pieceAnswerOf : K .Session → Label → List ℕ → List ℕ → Answer
+  pieceAnswerOf s label x out = pieceAnswer (K .place s) label (length x) (exactOf (K .way) (label .part) (length x) (length out))
 
   unfoldable pub takenOf : K .Session → Part → List ℕ → K .Session
   takenOf s part x =
-      K .make (moved (K .place s) part (length x)) (flatOf (takenAt (K .width) (K .place s .rounds) (K .way) (K .place s) part x (stateOf s))) (K .key s)
+      K .make (moved (K .place s) part (length x)) (flatOf (takenAt (K .width) (K .place s) (K .way) part x (stateOf s))) (K .key s)
 
   -- the answer and the next session: the piece taken in, or the session as it was
-  unfoldable pub pieceOf : K .Session → ℕ → Part → ℕ → List ℕ → List ℕ → K .Step
-  pieceOf s revision part offset x out =
-      let a = pieceAnswerOf s revision part offset x out in
-      K .step a (cond (doneOf a) (takenOf s part x) s)
+  unfoldable pub pieceOf : K .Session → Label → List ℕ → List ℕ → K .Step
+  pieceOf s label x out =
+      let a = pieceAnswerOf s label x out in
+      K .step a (cond (doneOf a) (takenOf s (label .part) x) s)
 
-  unfoldable pub pieceOut : K .Session → ℕ → Part → ℕ → List ℕ → List ℕ → List ℕ
-  pieceOut s revision part offset x out =
-      cond (doneOf (pieceAnswerOf s revision part offset x out)) (writtenAt (K .width) (K .place s .rounds) (K .way) (K .place s) part x (stateOf s) out) out
+  unfoldable pub pieceOut : K .Session → Label → List ℕ → List ℕ → List ℕ
+  pieceOut s label x out =
+      cond (doneOf (pieceAnswerOf s label x out)) (writtenAt (K .width) (K .place s) (K .way) (label .part) x (stateOf s) out) out
 
   -- ---- close
 
+  -- the tag at a place, under a key as words: once every part is ended
+  abbrev pub tagAt : Place → List ℕ → State → List ℕ
+  tagAt p key s = tagOf (K .width) (p .terms .rounds) (K .tagBits) key (readied (K .width) p 3 s)
+
   -- the tag of all that a session took in
   unfoldable pub ownTag : K .Session → List ℕ
-  ownTag s = tagOf (K .width) (K .place s .rounds) (K .tagBits) (K .key s) (readied (K .width) (K .place s .rounds) (K .place s) 3 (stateOf s))
+  ownTag s = tagAt (K .place s) (K .key s) (stateOf s)
 
-  unfoldable pub closeAnswerOf : K .Session → ℕ → List ℕ → Answer
-  closeAnswerOf s revision tag = closeAnswer (K .place s) revision (K .tagBits / 8) (length tag)
+  unfoldable pub closeAnswerOf : K .Session → Edition → List ℕ → Answer
+  closeAnswerOf s edition tag = closeAnswer (K .place s) edition tagLength (length tag)
 
   -- the closed session with what the tag comes to, or the refusal with the session as it was
-  unfoldable pub closeOf : K .Session → ℕ → List ℕ → K .Step
-  closeOf s revision tag =
-      let a = closeAnswerOf s revision tag in
+  unfoldable pub closeOf : K .Session → Edition → List ℕ → K .Step
+  closeOf s edition tag =
+      let a = closeAnswerOf s edition tag in
       cond (doneOf a) (K .step (verdictOf (K .way) tag (ownTag s)) closedOf) (K .step a s)
 
   -- what the tag buffer of a sealing session then holds
-  unfoldable pub closeTag : K .Session → ℕ → List ℕ → List ℕ
-  closeTag s revision tag = cond (doneOf (closeAnswerOf s revision tag)) (ownTag s) tag
+  unfoldable pub closeTag : K .Session → Edition → List ℕ → List ℕ
+  closeTag s edition tag = cond (doneOf (closeAnswerOf s edition tag)) (ownTag s) tag

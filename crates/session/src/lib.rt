@@ -1,3 +1,1 @@
-// Sealing and checking in pieces: a session for one revision of a job, which goes in and comes back by value.
-pub mod w32;
-pub mod w64;
+// What sealing and checking in pieces are stands in specs/, and the laws about them in proofs/, once for every kind of session. This crate has no code.

@@ -6,11 +6,11 @@ pub(crate) fn print_all() {
         STDOUT_FILENO,
         b"constants: k, u_k at 32 bits, u_k at 64 bits\n",
     );
-    let narrow = permutation::w32::permute(
+    let narrow = permutation32::permute(
         [[0, 1, 2, 3], [4, 5, 6, 7], [8, 9, 10, 11], [12, 13, 14, 15]],
         2,
     );
-    let wide = permutation::w64::permute(
+    let wide = permutation64::permute(
         [[0, 1, 2, 3], [4, 5, 6, 7], [8, 9, 10, 11], [12, 13, 14, 15]],
         2,
     );

@@ -1,7 +1,7 @@
 // The limits, asked of the checks that decide every sealing: a body of 16 MiB fits no program's stack, so its length is asked alone.
 use crate::text::print_answer;
 use libc::STDOUT_FILENO;
-use sealing::checks::seal_checks;
+use rules::calls::seal_checks;
 
 pub(crate) fn print_all() {
     io::write_all(STDOUT_FILENO, b"limits\n");

@@ -4,6 +4,7 @@ mod cuts;
 mod filled;
 mod limits;
 mod log;
+mod named;
 mod opening;
 mod published;
 mod text;

@@ -4,8 +4,9 @@ use mathlib.Core.Path.{refl, ap, ap₂, _∙_}
 use Prim.Native.Nat.{ℕ, _+_}
 use borrow.Author.Needs.{needs}
 use lib.Dec.{leb, eqb}
-use Rattle.answers.specs.declared.Answer.the-variants.{OverLimit, OutputLength, OtherRevision, EarlierPart, OtherOffset, NotSound}
+use Rattle.answers.specs.declared.Answer.the-variants.{OverLimit, OutputLength, EarlierPart, OtherOffset, NotSound}
 use Rattle.answers.proofs.Chain.{link}
+use Rattle.places.specs.Terms.{ofEdition}
 use Rattle.places.specs.Places.{pieceAnswer}
 use Rattle.places.proofs.piece_answer.Statement.{statement}
 use Rattle.places.proofs.piece_answer.Tie as tie
@@ -20,15 +21,15 @@ returns c =
     let n1 = n2 .before in
     let room = n1 .before in
     let most = room .before in
-    let rank = most .before in
+    let rank = most .before .before in
     let present = rank .before in
-    let sound = present .before .before in
+    let sound = present .before in
     let had = sound .before in
     let x = had .before .args in
-    link NotSound (c .need6 .ensures) (sound .sound .ensures)
-    (link OtherRevision (n5 .need5 .ensures) refl
+    link NotSound (c .need5 .ensures) (sound .sound .ensures)
+    (n5 .of-edition .ensures ∙ ap (ofEdition (x .label .edition) (x .p .terms .edition))
     (link EarlierPart (n4 .need4 .ensures) (ap₂ (λ (a b : ℕ). leb a b) (present .present .ensures) (rank .rank .ensures))
-    (link OtherOffset (n3 .need3 .ensures) (ap (λ (a : ℕ). eqb (x .offset) a) (had .count .ensures))
+    (link OtherOffset (n3 .need3 .ensures) (ap (λ (a : ℕ). eqb (x .label .offset) a) (had .count .ensures))
     (link OverLimit (n2 .need2 .ensures) (room .fits2 .ensures ∙ ap₂ (λ (a b : ℕ). leb (a + x .n) b) (had .count .ensures) (most .limit .ensures))
     (link OutputLength (n1 .need .ensures) refl refl)))))
 

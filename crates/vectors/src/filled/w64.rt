@@ -3,11 +3,15 @@ use super::LONGEST_BODY;
 use super::PIECE;
 use super::print_answers;
 use super::print_two;
+use crate::named::edition;
+use crate::named::label;
+use crate::named::terms;
 use places::Part;
-use session::w64::check::Checking;
-use session::w64::check::CheckingStep;
-use session::w64::seal::Sealing;
-use session::w64::seal::SealingStep;
+use rules::w64::*;
+use session64::check::Checking;
+use session64::check::CheckingStep;
+use session64::seal::Sealing;
+use session64::seal::SealingStep;
 
 // A step of a sealing session and one of a checking session, which takes in what the sealing one gives out.
 struct Steps {
@@ -43,9 +47,9 @@ fn close(steps: Steps) {
     let s = steps.sealing.session;
     let c = steps.checking.session;
     print_two(b"bytes of the body taken:", s.body as u64, c.body as u64);
-    let mut tag = [0u8; 32];
-    let sealed = s.close(0, &mut tag);
-    let checked = c.close(0, &tag);
+    let mut tag = [0u8; TAG];
+    let sealed = s.close(edition(0), &mut tag);
+    let checked = c.close(edition(0), &tag);
     print_steps(
         b"close, with the tag of the sealing session:",
         Steps {
@@ -56,9 +60,9 @@ fn close(steps: Steps) {
 }
 
 fn start() -> Steps {
-    let key = [0u8; 32];
-    let s = Sealing::start(&key, &key, 4, 0);
-    let c = Checking::start(&key, &key, 4, 0);
+    let key = [0u8; ROW];
+    let s = Sealing::start(&key, &key, terms(4, 0));
+    let c = Checking::start(&key, &key, terms(4, 0));
     Steps {
         sealing: s,
         checking: c,
@@ -68,8 +72,8 @@ fn start() -> Steps {
 fn note(steps: Steps, offset: usize, bytes: &[u8]) -> Steps {
     let s = steps.sealing.session;
     let c = steps.checking.session;
-    let sealed = s.piece(0, Part::Note, offset, bytes, &mut [0u8; 0]);
-    let checked = c.piece(0, Part::Note, offset, bytes);
+    let sealed = s.piece(label(0, Part::Note, offset), bytes, &mut [0u8; 0]);
+    let checked = c.piece(label(0, Part::Note, offset), bytes);
     Steps {
         sealing: sealed,
         checking: checked,
@@ -79,8 +83,8 @@ fn note(steps: Steps, offset: usize, bytes: &[u8]) -> Steps {
 fn body(steps: Steps, offset: usize, bytes: &[u8], out: &mut [u8]) -> Steps {
     let s = steps.sealing.session;
     let c = steps.checking.session;
-    let sealed = s.piece(0, Part::Body, offset, bytes, out);
-    let checked = c.piece(0, Part::Body, offset, out);
+    let sealed = s.piece(label(0, Part::Body, offset), bytes, out);
+    let checked = c.piece(label(0, Part::Body, offset), out);
     Steps {
         sealing: sealed,
         checking: checked,

@@ -1,0 +1,23 @@
+-- `blocks32::ends::start`: the rows laid out, P, and the key.
+-- Assumes nothing.
+use borrow.Author.Needs.{needs}
+use mathlib.Core.Path.{_≡_, refl, ap, _∙_}
+use Rattle.norx.specs.Norx.{word32, bits, tagBits, P, State, row, rowAt, xorRow, constants, entered, keyed, start}
+use Rattle.norx.proofs.Slices.{list4}
+use Rattle.norx.proofs.Turns.{unmarked}
+use Rattle.blocks32.proofs.ends.start.Statement.{statement}
+use Rattle.blocks32.proofs.ends.start.Tie as tie
+
+returns : tie.Need-returns
+unfolding start entered
+returns c =
+    let x = c .before .before .before .before .before .args in
+    let u = c .before .before .before .before .upper-constants .ensures in
+    let r3 : c .before .xor-row .result ≡ xorRow (rowAt (constants word32) 3) (row (bits word32) (x .rounds) 1 (tagBits word32)) =
+    c .before .xor-row .ensures ∙ ap (λ (s : State). xorRow (rowAt s 1) (row (bits word32) (x .rounds) 1 (tagBits word32))) u in
+    let e : c .enter-keyed .result ≡ keyed (x .k) (P word32 (x .rounds) _) = c .enter-keyed .ensures in
+    e
+    ∙ ap (λ (s : State). keyed (x .k) (P word32 (x .rounds) s)) (unmarked _ ∙ list4 refl refl (ap (λ (s : State). rowAt s 0) u) r3)
+
+pub start-spec : {M : Type 1} → statement M
+start-spec = tie.close (tie.spec (λ c κs. search needs) (λ c. search needs) (λ c. search needs) (λ c κs. search needs) (λ c κs. search needs) returns)

@@ -1,0 +1,33 @@
+-- The test of the edition, as a link of a chain of refusals; and the front of an edition: how long it is, and that it is bytes.
+-- Assumes nothing.
+use mathlib.Core.Path.{_≡_, refl}
+use mathlib.Core.Bool.{true}
+use borrow.Author.Tests.{eq-eqb}
+use lib.Dec.{eqb}
+use lib.ListN.{length}
+use Rattle.norx.specs.Norx.{bytesOf}
+use Rattle.norx.specs.Front.{front, frontBytes}
+use Rattle.norx.proofs.Bytes.{Bytes, bytes-bytesOf}
+use Rattle.answers.specs.declared.Answer.{Answer}
+use Rattle.answers.specs.Answers.{doneOf, needOf}
+use Rattle.answers.proofs.Chain.{passed}
+use Rattle.places.specs.declared.terms.Edition.{Edition}
+use Rattle.places.specs.Terms.{ofEdition, frontOf}
+
+-- where it gives no refusal, the rest of the chain gives none
+pub edition-passed : (given own : Edition) (rest : Answer) → doneOf (ofEdition given own rest) ≡ true → doneOf rest ≡ true
+unfolding ofEdition
+edition-passed given own rest h = passed _ _ _ refl h .1
+
+-- a session's own edition is not refused
+pub edition-own : (E : Edition) (rest : Answer) → ofEdition E E rest ≡ rest
+unfolding ofEdition needOf
+edition-own E rest = let same : eqb (E .revision) (E .revision) ≡ true = eq-eqb (E .revision) (E .revision) refl in rw same
+
+pub front-long : (E : Edition) → length (frontOf E) ≡ frontBytes
+unfolding frontOf front bytesOf
+front-long E = refl
+
+pub front-bytes : (E : Edition) → Bytes (frontOf E)
+unfolding frontOf front
+front-bytes E = bytes-bytesOf frontBytes (E .revision)

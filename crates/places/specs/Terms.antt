@@ -1,0 +1,29 @@
+-- What a session is begun for, and which edition of a job a session, a piece or a close is of.
+-- Assumes nothing.
+use Prim.Native.Nat.{ℕ}
+use mathlib.Core.Bool.{Bool}
+use mathlib.Core.List.{List}
+use lib.Dec.{eqb}
+use Rattle.norx.specs.Front.{front}
+use Rattle.answers.specs.declared.Answer.{Answer}
+use Rattle.answers.specs.declared.Answer.the-variants.{OtherRevision}
+use Rattle.answers.specs.Answers.{needOf}
+use Rattle.rules.specs.Rules.{roundsOk}
+use Rattle.places.specs.declared.terms.Edition.{Edition}
+use Rattle.places.specs.declared.terms.Terms.{Terms}
+
+-- the terms of a closed session: every number in them is zero
+abbrev pub noTerms : Terms
+noTerms = record { rounds = 0; edition = record { revision = 0 } }
+
+-- rounds are 4 or 6
+abbrev pub termsOk : Terms → Bool
+termsOk T = roundsOk (T .rounds)
+
+-- a link of the chains of refusals: the edition that is given is the session's own
+unfoldable pub ofEdition : Edition → Edition → Answer → Answer
+ofEdition given own rest = needOf (eqb (given .revision) (own .revision)) OtherRevision rest
+
+-- what stands in front of the note in the header of a session
+unfoldable pub frontOf : Edition → List ℕ
+frontOf E = front (E .revision)

@@ -1,0 +1,31 @@
+// What a session is begun for, and which edition of a job a session, a piece or a close is of.
+ghost use mathlib.Core.Path.{_≡_};
+ghost use Rattle.places.specs.Terms.{termsOk, ofEdition};
+use answers::Answer;
+use answers::need;
+use rules::rounds_ok;
+
+// Which edition of a job a session, a piece or a close is of.
+pub struct Edition {
+    pub revision: u64,
+}
+
+// What a session is begun for.
+pub struct Terms {
+    pub rounds: u32,
+    pub edition: Edition,
+}
+
+// Whether a session may be begun for these terms.
+pub(crate) fn terms_ok(terms: Terms) -> bool
+    ensures { λ r. ⌜ r ≡ termsOk terms ⌝ }
+{
+    rounds_ok(terms.rounds)
+}
+
+// A link of the chain of refusals: the edition that is given is the session's own.
+pub(crate) fn of_edition(given: Edition, own: Edition, rest: Answer) -> Answer
+    ensures { λ r. ⌜ r ≡ ofEdition given own rest ⌝ }
+{
+    need(given.revision == own.revision, Answer::OtherRevision, rest)
+}

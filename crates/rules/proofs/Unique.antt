@@ -1,0 +1,35 @@
+-- Any two results that the contract of a public function allows are equal, with what every lent buffer then holds. Stated over the contracts' own readings.
+-- Assumes nothing.
+use mathlib.Core.Path.{_≡_, sym, _∙_}
+use denote.Triple.Clauses.{AtExit}
+use contract.Lifetimes.{Lfts}
+use borrow.Fn.World.{ArgsD, ResD}
+use borrow.Fn.Kinds.{endedOf}
+use Rattle.rules.proofs.rounds_ok.{signature as signature-rounds-ok}
+use Rattle.rules.proofs.rounds_ok.Kinds as kinds-rounds-ok
+use Rattle.rules.proofs.rounds_ok.Reads.{Post as Post-rounds-ok}
+use Rattle.rules.proofs.lengths_ok.{signature as signature-lengths-ok}
+use Rattle.rules.proofs.lengths_ok.Kinds as kinds-lengths-ok
+use Rattle.rules.proofs.lengths_ok.Reads.{Post as Post-lengths-ok}
+use Rattle.rules.proofs.calls.seal_checks.{signature as signature-seal-checks}
+use Rattle.rules.proofs.calls.seal_checks.Kinds as kinds-seal-checks
+use Rattle.rules.proofs.calls.seal_checks.Reads.{Post as Post-seal-checks}
+use Rattle.rules.proofs.calls.open_checks.{signature as signature-open-checks}
+use Rattle.rules.proofs.calls.open_checks.Kinds as kinds-open-checks
+use Rattle.rules.proofs.calls.open_checks.Reads.{Post as Post-open-checks}
+
+pub one-rounds-ok : (κs : Lfts 0) (a : ArgsD signature-rounds-ok κs) (r r′ : ResD signature-rounds-ok κs) (s s′ : AtExit (endedOf 0 kinds-rounds-ok.ps kinds-rounds-ok.r) κs)
+    → Post-rounds-ok κs a r s → Post-rounds-ok κs a r′ s′ → r ≡ r′
+one-rounds-ok κs a r r′ s s′ p q = p ∙ sym q
+
+pub one-lengths-ok : (κs : Lfts 0) (a : ArgsD signature-lengths-ok κs) (r r′ : ResD signature-lengths-ok κs) (s s′ : AtExit (endedOf 0 kinds-lengths-ok.ps kinds-lengths-ok.r) κs)
+    → Post-lengths-ok κs a r s → Post-lengths-ok κs a r′ s′ → r ≡ r′
+one-lengths-ok κs a r r′ s s′ p q = p ∙ sym q
+
+pub one-seal-checks : (κs : Lfts 0) (a : ArgsD signature-seal-checks κs) (r r′ : ResD signature-seal-checks κs) (s s′ : AtExit (endedOf 0 kinds-seal-checks.ps kinds-seal-checks.r) κs)
+    → Post-seal-checks κs a r s → Post-seal-checks κs a r′ s′ → r ≡ r′
+one-seal-checks κs a r r′ s s′ p q = p ∙ sym q
+
+pub one-open-checks : (κs : Lfts 0) (a : ArgsD signature-open-checks κs) (r r′ : ResD signature-open-checks κs) (s s′ : AtExit (endedOf 0 kinds-open-checks.ps kinds-open-checks.r) κs)
+    → Post-open-checks κs a r s → Post-open-checks κs a r′ s′ → r ≡ r′
+one-open-checks κs a r r′ s s′ p q = p ∙ sym q

@@ -1,4 +1,0 @@
-// Sessions at 32-bit words.
-pub mod check;
-mod parts;
-pub mod seal;

@@ -1,4 +1,0 @@
-// Sessions at 64-bit words.
-pub mod check;
-mod parts;
-pub mod seal;

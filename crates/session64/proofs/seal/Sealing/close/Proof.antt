@@ -1,0 +1,55 @@
+-- `session64::seal::Sealing::close`: the tag and the closed session, or nothing changed.
+-- Assumes nothing.
+use Rattle.session64.specs.Kinds.{sealing64}
+use mathlib.Core.Path.{refl, _∙_}
+use native.Mathlib.Omega.{arith}
+use Rattle.norx.specs.Norx.{word64}
+use Rattle.session.proofs.Parts.{copied-over, own-long}
+use Rattle.session.proofs.Steps.{close-fits, close-done, close-tag, close-kept, close-left}
+use borrow.Author.Needs.{needs}
+use Rattle.session64.proofs.seal.Sealing.close.Statement.{statement}
+use Rattle.session64.proofs.seal.Sealing.close.Tie as tie
+
+own-tag-requires : tie.Need-own-tag-requires
+own-tag-requires c κs =
+    let if1 = c .before .before .before in
+    let done = if1 .before in
+    let answer = done .before in
+    let place = answer .before in
+    let x = place .before .before .args in
+    close-fits sealing64 (x .self) (x .edition) (x .tag .now) _ _ _ (place .place .ensures) (answer .close-answer .ensures) (done .done .ensures) (if1 .if1 .taken) .0
+
+copy-requires : tie.Need-copy-requires
+copy-requires c κs =
+    let if1 = c .before .before .before .before .before .before in
+    let done = if1 .before in
+    let answer = done .before in
+    let place = answer .before in
+    let x = place .before .before .args in
+    let long = close-fits sealing64 (x .self) (x .edition) (x .tag .now) _ _ _ (place .place .ensures) (answer .close-answer .ensures) (done .done .ensures) (if1 .if1 .taken) .1 in
+    let same = own-long word64 _ _ _ (x .tag .now) (c .before .before .own-tag .ensures) long in
+    omega (arith, same)
+
+returns : tie.Need-returns
+returns c =
+    let copy = c .before .before .before in
+    let own = copy .before .before .before in
+    let rows = own .before in
+    let if1 = rows .before .before .before in
+    let done = if1 .before in
+    let answer = done .before in
+    let place = answer .before in
+    let x = place .before .before .args in
+    let long = close-fits sealing64 (x .self) (x .edition) (x .tag .now) _ _ _ (place .place .ensures) (answer .close-answer .ensures) (done .done .ensures) (if1 .if1 .taken) .1 in
+    (close-done sealing64 (x .self) (x .edition) (x .tag .now) _ _ _ (place .place .ensures) (answer .close-answer .ensures) (done .done .ensures) (if1 .if1 .taken) _ _ _ _ (rows .rows .ensures) (own .own-tag .ensures) refl (c .closed .ensures), close-tag sealing64 (x .self) (x .edition) (x .tag .now) _ _ _ (place .place .ensures) (answer .close-answer .ensures) (done .done .ensures) (if1 .if1 .taken) _ _ (rows .rows .ensures) (copied-over _ (x .tag .now) (own-long word64 _ _ _ (x .tag .now) (own .own-tag .ensures) long) (copy .copy .ensures .1) ∙ own .own-tag .ensures))
+
+returns-2 : tie.Need-returns-2
+returns-2 c =
+    let done = c .before in
+    let answer = done .before in
+    let place = answer .before in
+    let x = place .before .before .args in
+    (close-kept sealing64 (x .self) (x .edition) (x .tag .now) _ _ _ (place .place .ensures) (answer .close-answer .ensures) (done .done .ensures) (c .if1 .left), close-left sealing64 (x .self) (x .edition) (x .tag .now) _ _ _ (place .place .ensures) (answer .close-answer .ensures) (done .done .ensures) (c .if1 .left))
+
+pub close-spec : {M : Type 1} → statement M
+close-spec = tie.close (tie.spec (λ c κs. search needs) (λ c κs. search needs) (λ c κs. search needs) (λ c κs. search needs) own-tag-requires (λ c. search needs) copy-requires (λ c κs. search needs) (λ c. search needs) returns returns-2)

@@ -1,0 +1,30 @@
+-- `sponge32::parts::absorb`: nothing of an empty part, else its full blocks and the padded one.
+-- Assumes nothing.
+use borrow.Author.Needs.{needs}
+use mathlib.Core.Path.{refl}
+use Prim.Native.Nat.{_*_, _/_}
+use lib.ListN.{length}
+use Rattle.norx.specs.Norx.{word32, rate}
+use Rattle.norx.proofs.Slices.{tail}
+use Rattle.norx.proofs.Blocks.{part-none, part-some}
+use Rattle.sponge32.proofs.parts.absorb.Statement.{statement}
+use Rattle.sponge32.proofs.parts.absorb.Tie as tie
+
+returns : tie.Need-returns
+returns c =
+    let x = c .before .before .args in
+    part-none word32 (x .rounds) (x .m) (x .s) (x .d .now) (c .if1 .taken)
+
+returns-2 : tie.Need-returns-2
+returns-2 c =
+    let full = c .before .before in
+    let x = full .before .before .before .args in
+    let d = x .d .now in
+    part-some word32 (x .rounds) (x .m) (x .s) d (full .before .if1 .left) (full .absorb-full .ensures) (tail (length d / rate word32 * rate word32) d) refl refl (c .absorb-last .ensures)
+
+pub absorb-spec : {M : Type 1} → statement M
+absorb-spec =
+    tie.close
+    (tie.spec
+    returns (λ c. search needs) (λ c κs. search needs) (λ c. search needs) (λ c. search needs) (λ c. search needs) (λ c κs. search needs)
+    returns-2)
