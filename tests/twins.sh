@@ -71,7 +71,7 @@ for file in $wide; do
         count=$((count + 1))
         if ! difference=$(derived "$file" | diff - "$twin"); then
             echo "$twin does not follow from $file; what follows is behind <, what stands there behind >:" >&2
-            printf '%s\n' "$difference" | sed -n 1,3p >&2
+            printf '%s\n' "$difference" | awk 'NR == 1; /^</ && !wide++; /^>/ && !narrow++' >&2
             exit 1
         fi
     fi
