@@ -1,26 +1,31 @@
 # make: proves every crate, runs every program, shows the accident replayed, and builds the C library.
 # make test: the merge gate, and then the tests outside the proof.   make bench: the library beside a C implementation, and a session beside one call.
 # make install PREFIX=..: the library, its header and a pkg-config file, for a C build to find.
+# Each crate, edit and test has one line; with V=1 all that the checker says is shown, and target/log keeps it.
 .PHONY: all library install test outside bench clean
 PREFIX ?= /usr/local
 MAKEFLAGS += --no-print-directory
 
+# How many minutes make and make test take from nothing, measured on two cores.
+minutes_of_all = 6
+minutes_of_test = 13
+
 all:
-	@echo "Proving every crate, then running each program and comparing what it writes with what it must:"
-	@rt check
+	@MINUTES=$(minutes_of_all) tests/progress.sh check
 	@tests/show.sh replay
+	@echo
 	@$(MAKE) library
 	@echo
 	@echo "The C library is target/staticlib/libjeczmilot.a, and its header include/jeczmilot.h"
 
 library:
-	@rt staticlib jeczmilot
+	@tests/progress.sh staticlib jeczmilot
 
 install: library
 	@packaging/install.sh $(abspath $(PREFIX))
 
 test:
-	@tests/gate.sh
+	@MINUTES=$(minutes_of_test) tests/gate.sh
 
 outside:
 	@tests/outside.sh
@@ -28,8 +33,7 @@ outside:
 bench: library
 	@tests/bench.sh
 	@echo
-	@echo "Proving the program that measures sessions:"
-	@rt check pace
+	@tests/progress.sh check pace
 	@tests/pace.sh
 
 clean:

@@ -1,7 +1,7 @@
-/* Jeczmilot: sealing and opening of machine jobs with NORX 3.0, parallelism 1.
+/* Jeczmilot: sealing and opening of machine jobs with NORX 3.0, parallelism 1 (the plain form, one block after another).
  *
  * Two calls. Each ends with an answer, for any numbers and bytes given to it; nothing is asked beforehand
- * but what C asks of every pointer (see "Buffers" below). The answer is one of the numbers JECZMILOT_...
+ * but what C asks of every pointer (see "Buffers" below). Look at the answer before anything else.
  *
  * WIDTHS           32-bit words    64-bit words
  *   width               32              64        given as a number; any other is answered 11
@@ -11,7 +11,7 @@
  *   tag                 16              32        bytes
  *
  * LENGTHS
- *   header and trailer   0 to 65,536 bytes each
+ *   header and trailer   0 to 65,536 bytes each: bound to the body by the tag, and not encrypted
  *   body                 0 to 16,777,216 bytes
  *   sealed text          the body's ciphertext, as long as the body, followed by the tag
  *   out of norx_seal     exactly body_len + tag
@@ -28,10 +28,20 @@
  *   10  the tag differs in any byte                      every byte of out is zero   (norx_open)
  * The numbers 6 to 9 are for sessions and are never given by these calls.
  *
+ * SESSIONS
+ *   Sealing and checking piece by piece is there for Rattle programs, and not for C. A session for a revision, with a
+ *   note, has this header: the revision as eight bytes, the least first, and then the note (65,528 bytes at most).
+ *   What is sealed with that header passes such a check, and what such a session sealed opens with it.
+ *
  * BUFFERS
- *   A pointer and its length are one argument. A null pointer with length 0 is an empty text.
+ *   A pointer belongs to the length behind it. A null pointer with length 0 is an empty text.
  *   out must not overlap any other buffer; the others may overlap each other, and none of them is written.
  *   While norx_open runs, out may hold bytes whose tag is not checked yet: let nobody read it before the answer.
+ *   No call keeps anything between calls, or allocates; any number of threads may call at once, each with its own out.
+ *
+ * NAMES
+ *   What the linker sees begins with norx_: it says what is done, and takes no other library's name. What the
+ *   preprocessor sees begins with JECZMILOT_: other implementations of NORX define NORX_.., and a file may include both.
  *
  * WHAT IT DOES NOT DO
  *   Whoever uses one nonce twice under one key loses secrecy: choose a nonce that was never used with that key.
@@ -47,27 +57,43 @@
 extern "C" {
 #endif
 
-#define JECZMILOT_DONE 0
-#define JECZMILOT_KEY_LENGTH 1
-#define JECZMILOT_ROUNDS_NUMBER 2
-#define JECZMILOT_TAG_LENGTH 3
-#define JECZMILOT_OVER_LIMIT 4
-#define JECZMILOT_OUTPUT_LENGTH 5
-#define JECZMILOT_TAG_DIFFERS 10
-#define JECZMILOT_WIDTH_NUMBER 11
+#define JECZMILOT_VERSION "0.2"
 
-/* The bytes of a key, of a nonce and of a tag. */
+/* The answers. */
+#define JECZMILOT_DONE 0
+#define JECZMILOT_BAD_KEY_LENGTH 1 /* of the key or of the nonce */
+#define JECZMILOT_BAD_ROUNDS 2
+#define JECZMILOT_BAD_TAG_LENGTH 3 /* the sealed text has no room for a tag */
+#define JECZMILOT_OVER_LIMIT 4
+#define JECZMILOT_BAD_OUT_LENGTH 5
+#define JECZMILOT_TAG_DIFFERS 10
+#define JECZMILOT_BAD_WIDTH 11
+
+/* The bytes of a key, of a nonce and of a tag, at each width. */
 #define JECZMILOT_KEY_BYTES_32 16
 #define JECZMILOT_KEY_BYTES_64 32
+#define JECZMILOT_NONCE_BYTES_32 16
+#define JECZMILOT_NONCE_BYTES_64 32
 #define JECZMILOT_TAG_BYTES_32 16
 #define JECZMILOT_TAG_BYTES_64 32
 
+/* The most bytes of a header, a body and a trailer. */
 #define JECZMILOT_HEADER_LIMIT 65536
 #define JECZMILOT_BODY_LIMIT 16777216
 #define JECZMILOT_TRAILER_LIMIT 65536
 
+/* Has the compiler warn where an answer is not looked at; empty where it cannot, or where it was defined so before. */
+#ifndef JECZMILOT_LOOK_AT_THE_ANSWER
+#if defined(__GNUC__)
+#define JECZMILOT_LOOK_AT_THE_ANSWER __attribute__((warn_unused_result))
+#else
+#define JECZMILOT_LOOK_AT_THE_ANSWER
+#endif
+#endif
+
 /* Seals a body under a key and a nonce, bound to a header and a trailer that are not encrypted.
- * Writes ciphertext and tag to out. Answers 0, 11, 2, 1, 4 or 5. */
+ * On 0 out holds ciphertext and tag; on any other answer it is unchanged. Answers 0, 11, 2, 1, 4 or 5. */
+JECZMILOT_LOOK_AT_THE_ANSWER
 uint32_t norx_seal(uint32_t width, uint32_t rounds,
                    const uint8_t *key, size_t key_len,
                    const uint8_t *nonce, size_t nonce_len,
@@ -77,8 +103,9 @@ uint32_t norx_seal(uint32_t width, uint32_t rounds,
                    uint8_t *out, size_t out_len);
 
 /* Opens a sealed text under the key, nonce, header and trailer that it was sealed with.
- * Writes the message to out exactly when some message seals to this text, and else zeros.
- * Answers 0, 11, 2, 1, 3, 4, 5 or 10. */
+ * On 0 out holds the message, the one that seals to this text. On 10 there is no such message, and every byte of out
+ * is zero. On any other answer out is unchanged. Answers 0, 11, 2, 1, 3, 4, 5 or 10. */
+JECZMILOT_LOOK_AT_THE_ANSWER
 uint32_t norx_open(uint32_t width, uint32_t rounds,
                    const uint8_t *key, size_t key_len,
                    const uint8_t *nonce, size_t nonce_len,

@@ -11,7 +11,13 @@ to=${DESTDIR-}$prefix
 mkdir -p "$to/lib/pkgconfig" "$to/include"
 cp "$archive" "$to/lib/libjeczmilot.a"
 cp "$here/include/jeczmilot.h" "$to/include/jeczmilot.h"
-awk -v prefix="$prefix" '{ at = index($0, "@PREFIX@"); print at ? substr($0, 1, at - 1) prefix substr($0, at + 8) : $0 }' \
+version=$(sed -n 's/^#define JECZMILOT_VERSION "\(.*\)"$/\1/p' "$here/include/jeczmilot.h")
+awk -v prefix="$prefix" -v version="$version" '
+    function with(line, word, value,    at) {
+        at = index(line, word)
+        return at ? substr(line, 1, at - 1) value substr(line, at + length(word)) : line
+    }
+    { print with(with($0, "@PREFIX@", prefix), "@VERSION@", version) }' \
     "$here/packaging/jeczmilot.pc.in" >"$to/lib/pkgconfig/jeczmilot.pc"
 chmod 644 "$to/lib/libjeczmilot.a" "$to/include/jeczmilot.h" "$to/lib/pkgconfig/jeczmilot.pc"
 echo "installed below $to: lib/libjeczmilot.a, include/jeczmilot.h, lib/pkgconfig/jeczmilot.pc"

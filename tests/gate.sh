@@ -32,7 +32,7 @@ count() {
     failed=$((failed + bad))
 }
 
-count "rt ci" rt ci
+count "rt ci" tests/progress.sh ci
 echo
 count "outside the proof" tests/outside.sh
 echo

@@ -13,3 +13,4 @@ mkdir -p target/tests
 $CC $CFLAGS -Iinclude -o "$program" tests/limits.c "$archive" $LDFLAGS
 $RUN "$program" | tee target/tests/limits.out
 cmp tests/limits.txt target/tests/limits.out
+echo "$(wc -l <tests/limits.txt) rows answer as tests/limits.txt says"

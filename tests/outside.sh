@@ -1,30 +1,44 @@
 #!/bin/sh
-# The tests outside the proof, on the library that rt has proved: each is counted, and the closing line has the numbers.
+# The tests outside the proof, on the library that rt has proved: a line for each, and the closing line has the numbers.
+# What a test says is kept in target/log/outside-NAME.out. Its last line is shown; where it fails, or with V=1, all of it.
 
 set -eu
 cd "$(dirname "$0")/.."
+. tests/tell.sh
 
 passed=0
 failed=0
+left=$(grep -c '^try ' tests/outside.sh)
+mkdir -p target/log
 
-try() {
-    echo
-    echo "$1:"
-    shift
-    if "$@"; then
-        passed=$((passed + 1))
-    else
-        echo "failed: $*"
+try() { # WHAT NAME COMMAND..
+    what=$1
+    log=target/log/outside-$2.out
+    shift 2
+    began=$(date +%s)
+    status=0
+    "$@" >"$log" 2>&1 || status=$?
+    took="$(($(date +%s) - began)) s"
+    left=$((left - 1))
+    if [ "$status" -ne 0 ]; then
         failed=$((failed + 1))
+        tell "$what" FAILED "$took" "$left"
+        echo "    $* ended with status $status; all that it said is in $log"
+        cat "$log"
+    else
+        passed=$((passed + 1))
+        tell "$what" passed "$took" "$left"
+        if [ "${V-}" = 1 ]; then cat "$log"; else tail -n 1 "$log" | sed 's/^/    /'; fi
     fi
 }
 
-try "The narrow side follows from the wide side" tests/twins.sh
-try "The C library" rt staticlib jeczmilot
-try "What the archive exports" tests/archive.sh
-try "The rows on limits" tests/limits.sh
-try "The README's program, with the archive and with what is installed" tests/readme.sh
-try "The library beside an independent implementation" tests/run.sh
-echo
+echo "$left tests outside the proof. V=1 shows all that they say; target/log/outside-*.out has it."
+try "the narrow side from the wide side" twins tests/twins.sh
+try "the C library" library rt staticlib jeczmilot
+try "what the archive exports" archive tests/archive.sh
+try "the header by itself" header tests/header.sh
+try "the rows on limits" limits tests/limits.sh
+try "the README's programs and story" readme tests/readme.sh
+try "beside an independent C code" differential tests/run.sh
 echo "$passed passed, $failed failed"
 [ "$failed" -eq 0 ]

@@ -1,6 +1,7 @@
 #!/bin/sh
 # Builds the C program of the README as it stands there, once with the archive and once against what `make install` puts
-# in place, and compares what it writes with what the README says; and the README's story with what the program replay must write:
+# in place, and compares what it writes with what the README says; the README's story with what the program replay must write;
+# and the README's Rattle code with the program example, which the gate proves and runs:
 #   tests/readme.sh [ARCHIVE]
 
 set -eu
@@ -28,6 +29,15 @@ export PKG_CONFIG_LIBDIR
 # shellcheck disable=SC2046
 try $(pkg-config --cflags --libs jeczmilot)
 
-awk '/^```$/ { on = !on; next } on && !done { print; seen = 1 } !on && seen { done = 1 }' README.md | sed -n "1,$(wc -l <crates/replay/stdout)p" >target/tests/story.txt
-cmp crates/replay/stdout target/tests/story.txt
-echo "the README's story is what the program replay writes"
+awk '/^```/ { on = !on; plain = $0 == "```"; next } on && plain' README.md >target/tests/story.txt
+test -s target/tests/story.txt
+case $(cat crates/replay/stdout) in
+*"$(cat target/tests/story.txt)"*) echo "the README's story is of what the program replay writes" ;;
+*) echo "the README's story is not in crates/replay/stdout" && exit 1 ;;
+esac
+
+awk '/^```rust$/ { on = 1; next } /^```$/ { on = 0 } on' README.md >target/tests/readme.rt
+awk '/^\/\/ The key that both sides have/ { on = 1 } /^\/\/ Prints/ { exit } on' crates/example/src/main.rt | sed '$d' >target/tests/example.rt
+test -s target/tests/example.rt
+diff target/tests/readme.rt target/tests/example.rt
+echo "the README's Rattle code is that of the program example"

@@ -1,6 +1,6 @@
 #!/bin/sh
 # The narrow side follows from the wide side: derives each file of 32-bit words from its twin of 64-bit words, by names
-# alone, and compares; prints the first line that differs. With --write it writes the narrow side instead.
+# alone, and compares; prints the first line that differs. With --write it makes the narrow side anew instead.
 #   tests/twins.sh [--write]
 
 set -eu
@@ -55,11 +55,14 @@ if [ "${1-}" = --write ]; then
             derived "$file" >"$twin"
         fi
     done
+    # What stands at the narrow side alone has lost its twin.
+    printf '%s\n' "$narrow" "$expected" "$expected" | sort | uniq -u | xargs -r rm
+    find crates -type d -empty -delete
     exit
 fi
 
 if [ "$narrow" != "$expected" ]; then
-    echo "a file stands at one width only:" >&2
+    echo "a file stands at one width only (tests/twins.sh --write makes the narrow side follow):" >&2
     printf '%s\n%s\n' "$narrow" "$expected" | sort | uniq -u >&2
     exit 1
 fi
@@ -70,10 +73,11 @@ for file in $wide; do
     if ! is_by_nature "$file"; then
         count=$((count + 1))
         if ! difference=$(derived "$file" | diff - "$twin"); then
-            echo "$twin does not follow from $file; what follows is behind <, what stands there behind >:" >&2
+            echo "$twin does not follow from $file (tests/twins.sh --write makes it); what follows is behind <, what stands there behind >:" >&2
             printf '%s\n' "$difference" | awk 'NR == 1; /^</ && !wide++; /^>/ && !narrow++' >&2
             exit 1
         fi
     fi
 done
-echo "$count files of 32-bit words follow from their twins of 64-bit words; written by hand at each width:$(echo $by_nature | sed -e 's/crates\// /g')"
+echo "written by hand at each width:$(echo $by_nature | sed -e 's/crates\// /g')"
+echo "$count files of 32-bit words follow from their twins of 64-bit words"

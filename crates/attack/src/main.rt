@@ -1,9 +1,9 @@
 // Tries to make a job of two revisions pass, at both widths, and counts what passes.
+mod accepted;
 mod job;
 mod offers;
 mod order;
 mod random;
-mod taken;
 mod tally;
 mod w32;
 mod w64;

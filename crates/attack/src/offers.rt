@@ -18,7 +18,7 @@ pub(crate) struct Offer {
     pub offset: usize,
 }
 
-// The p'th piece of the m'th job of a way, and behind the last piece one of no bytes; had is the body that the session has taken, and x a random number.
+// The p'th piece of the m'th job of a way, and behind the last piece one of no bytes; had is how much of the body the session has accepted, and x a random number.
 pub(crate) fn offered(way: Way, m: u32, p: u8, had: usize, x: u64) -> Offer {
     match way {
         Way::Cut => cut(m, p),

@@ -1,6 +1,7 @@
 // Rows of four words, and their bytes.
 ghost use mathlib.Core.Path.{_≡_};
 ghost use lib.ListN.{length};
+ghost use Rattle.norx.specs.Lent.{was};
 ghost use Rattle.norx.specs.Norx.{word32, rowBytes, rowOf, bytesOfRow, xorRow};
 use super::word::load;
 use super::word::store;
@@ -9,7 +10,7 @@ use rules::w32::*;
 // The row of a row's bytes.
 pub(crate) fn load_row(b: &[u8]) -> Row
     requires { ⌜ length (now b) ≡ rowBytes word32 ⌝ }
-    ensures { λ r. ⌜ r ≡ rowOf word32 (now (b .entry)) ⌝ }
+    ensures { λ r. ⌜ r ≡ rowOf word32 (was b) ⌝ }
 {
     [
         load(&b[0..WORD]),
@@ -38,19 +39,19 @@ pub(crate) fn xor_row(r: Row, q: Row) -> Row
 // A row xored with bytes, and its bytes then written.
 pub(crate) fn seal_row(r: Row, b: &[u8], out: &mut [u8]) -> Row
     requires { ⌜ (length (now b) ≡ rowBytes word32) × (length (now out) ≡ rowBytes word32) ⌝ }
-    ensures state { λ x. ⌜ x ≡ xorRow r (rowOf word32 (now (b .entry))) ⌝ }
-    ensures text { λ _. ⌜ now (out .exit) ≡ bytesOfRow word32 (xorRow r (rowOf word32 (now (b .entry)))) ⌝ }
+    ensures state { λ x. ⌜ x ≡ xorRow r (rowOf word32 (was b)) ⌝ }
+    ensures output { λ _. ⌜ now (out .exit) ≡ bytesOfRow word32 (xorRow r (rowOf word32 (was b))) ⌝ }
 {
     let x = xor_row(r, load_row(b));
     store_row(x, out);
     x
 }
 
-// The same bytes written, and the row of the bytes that came.
+// The same bytes written; the new row is the one of the bytes that came.
 pub(crate) fn open_row(r: Row, b: &[u8], out: &mut [u8]) -> Row
     requires { ⌜ (length (now b) ≡ rowBytes word32) × (length (now out) ≡ rowBytes word32) ⌝ }
-    ensures state { λ x. ⌜ x ≡ rowOf word32 (now (b .entry)) ⌝ }
-    ensures text { λ _. ⌜ now (out .exit) ≡ bytesOfRow word32 (xorRow r (rowOf word32 (now (b .entry)))) ⌝ }
+    ensures state { λ x. ⌜ x ≡ rowOf word32 (was b) ⌝ }
+    ensures output { λ _. ⌜ now (out .exit) ≡ bytesOfRow word32 (xorRow r (rowOf word32 (was b))) ⌝ }
 {
     let x = load_row(b);
     store_row(xor_row(r, x), out);

@@ -24,6 +24,9 @@ use Rattle.blocks64.proofs.blocks.rate_bytes.Reads.{Post as Post-blocks
 use Rattle.blocks64.proofs.turns.turns.{signature as signature-turns-turns}
 use Rattle.blocks64.proofs.turns.turns.Kinds as kinds-turns-turns
 use Rattle.blocks64.proofs.turns.turns.Reads.{Post as Post-turns-turns}
+use Rattle.blocks64.proofs.turns.unwritten.{signature as signature-turns-unwritten}
+use Rattle.blocks64.proofs.turns.unwritten.Kinds as kinds-turns-unwritten
+use Rattle.blocks64.proofs.turns.unwritten.Reads.{Post as Post-turns-unwritten}
 
 pub one-row : (κs : Lfts 1) (a : ArgsD signature-ends-row κs) (r r′ : ResD signature-ends-row κs) (s s′ : AtExit (endedOf 1 kinds-ends-row.ps kinds-ends-row.r) κs)
     → Post-ends-row κs a r s → Post-ends-row κs a r′ s′ → r ≡ r′
@@ -48,3 +51,7 @@ one-rate-bytes κs a r r′ s s′ p q = p ∙ sym q
 pub one-turns : (κs : Lfts 2) (a : ArgsD signature-turns-turns κs) (r r′ : ResD signature-turns-turns κs) (s s′ : AtExit (endedOf 2 kinds-turns-turns.ps kinds-turns-turns.r) κs)
     → Post-turns-turns κs a r s → Post-turns-turns κs a r′ s′ → (r ≡ r′) × (now (s .1 .1 .1 .1 .1 .0) ≡ now (s′ .1 .1 .1 .1 .1 .0))
 one-turns κs a r r′ s s′ p q = (p .0 ∙ sym (q .0), p .1 ∙ sym (q .1))
+
+pub one-unwritten : (κs : Lfts 1) (a : ArgsD signature-turns-unwritten κs) (r r′ : ResD signature-turns-unwritten κs) (s s′ : AtExit (endedOf 1 kinds-turns-unwritten.ps kinds-turns-unwritten.r) κs)
+    → Post-turns-unwritten κs a r s → Post-turns-unwritten κs a r′ s′ → r ≡ r′
+one-unwritten κs a r r′ s s′ p q = p ∙ sym q

@@ -1,5 +1,6 @@
 // The C host's library: sealing and opening in one call, on numbers and byte slices.
 ghost use mathlib.Core.Path.{_≡_};
+ghost use Rattle.norx.specs.Lent.{was};
 ghost use Rattle.answers.specs.Answers.{numberOf};
 ghost use Rattle.sealing.specs.Widths.{sealAnswerAt, sealOutAt, openAnswerAt, openOutAt};
 use answers::number;
@@ -16,8 +17,8 @@ pub extern "C" fn norx_seal(
     trailer: &[u8],
     out: &mut [u8],
 ) -> u32
-    ensures answer { λ r. ⌜ r ≡ numberOf (sealAnswerAt width rounds (now (key .entry)) (now (nonce .entry)) (now (header .entry)) (now (body .entry)) (now (trailer .entry)) (now (out .entry))) ⌝ }
-    ensures output { λ _. ⌜ now (out .exit) ≡ sealOutAt width rounds (now (key .entry)) (now (nonce .entry)) (now (header .entry)) (now (body .entry)) (now (trailer .entry)) (now (out .entry)) ⌝ }
+    ensures answer { λ r. ⌜ r ≡ numberOf (sealAnswerAt width rounds (was key) (was nonce) (was header) (was body) (was trailer) (was out)) ⌝ }
+    ensures output { λ _. ⌜ now (out .exit) ≡ sealOutAt width rounds (was key) (was nonce) (was header) (was body) (was trailer) (was out) ⌝ }
 {
     number(sealing::seal(width, rounds, key, nonce, header, body, trailer, out))
 }
@@ -34,8 +35,8 @@ pub extern "C" fn norx_open(
     trailer: &[u8],
     out: &mut [u8],
 ) -> u32
-    ensures answer { λ r. ⌜ r ≡ numberOf (openAnswerAt width rounds (now (key .entry)) (now (nonce .entry)) (now (header .entry)) (now (sealed .entry)) (now (trailer .entry)) (now (out .entry))) ⌝ }
-    ensures output { λ _. ⌜ now (out .exit) ≡ openOutAt width rounds (now (key .entry)) (now (nonce .entry)) (now (header .entry)) (now (sealed .entry)) (now (trailer .entry)) (now (out .entry)) ⌝ }
+    ensures answer { λ r. ⌜ r ≡ numberOf (openAnswerAt width rounds (was key) (was nonce) (was header) (was sealed) (was trailer) (was out)) ⌝ }
+    ensures output { λ _. ⌜ now (out .exit) ≡ openOutAt width rounds (was key) (was nonce) (was header) (was sealed) (was trailer) (was out) ⌝ }
 {
     number(sealing::open(width, rounds, key, nonce, header, sealed, trailer, out))
 }

@@ -15,19 +15,13 @@ use lib.Seq.{take-all, length-take-le, take-append-le, drop-append-le, drop-leng
 use Rattle.norx.specs.Norx.{Width, word32, word64, rate, run, State, blockCount, block, padded, xorBlock, rateOf, entered, afterBlocks, afterPart, bodyMark, cipherBlocks, ciphertext}
 use Rattle.norx.specs.Turns.{put}
 use Rattle.norx.proofs.Slices.{empty, blocks-le, left-lt, put-next}
+use Rattle.norx.specs.Blocks.{fulls, left}
 use Rattle.norx.proofs.Words.{length-rateOf}
 use Rattle.norx.proofs.Rate.{length-run}
 
 pub rate-pos : (w : Width) → 0 < rate w
 rate-pos word32 = lit< tt
 rate-pos word64 = lit< tt
-
--- how many full blocks a part has, and the bytes left after them
-abbrev pub fulls : Width → List ℕ → ℕ
-fulls w d = length d / rate w
-
-abbrev pub left : Width → List ℕ → List ℕ
-left w d = drop (fulls w d * rate w) d
 
 pub left-short : (w : Width) (d : List ℕ) → length (left w d) < rate w
 left-short w d = omega (arith, length-drop (fulls w d * rate w) d, left-lt (length d) (rate w) (rate-pos w))

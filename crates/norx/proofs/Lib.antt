@@ -16,9 +16,9 @@ pub mod Text
 pub mod Unseal
 pub mod Opening
 pub mod Pieces
-pub mod Taken
-pub mod Shown
-pub mod Checked
+pub mod Fed
+pub mod FedText
+pub mod Unfed
 pub mod Rotate
 pub mod Steps
 pub mod Constants

@@ -14,7 +14,8 @@ use Rattle.norx.specs.Turns.{put}
 use Rattle.norx.proofs.Slices.{empty, blocks-le, put-next}
 use Rattle.norx.proofs.Words.{length-rateOf}
 use Rattle.norx.proofs.Rate.{length-run}
-use Rattle.norx.proofs.Blocks.{rate-pos, fulls, left, left-short, run-left, count-some, after-prefix, after-suc, part-none, part-last}
+use Rattle.norx.specs.Blocks.{fulls, left}
+use Rattle.norx.proofs.Blocks.{rate-pos, left-short, run-left, count-some, after-prefix, after-suc, part-none, part-last}
 
 module _ (w : Width) (l : ℕ) (s : State) (c : List ℕ) where
   -- the state before block i, the mark and P done

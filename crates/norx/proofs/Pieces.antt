@@ -13,7 +13,7 @@ use lib.Dec.{eqb}
 use lib.ListN.{length, getD, take, drop, take-append-drop}
 use lib.Seq.{length-take-le}
 use Rattle.norx.specs.Norx.{Width, rate, State, xorBlock, rateOf, entered, bodyMark}
-use Rattle.norx.specs.Stream.{placed, begun, fed, fedText, unfed}
+use Rattle.norx.specs.Stream.{placed, enteredAt, fed, fedText, unfed}
 use Rattle.norx.proofs.Blocks.{rate-pos}
 use Rattle.norx.proofs.Stream.{fed-append}
 use Rattle.norx.proofs.Text.{text-append}
@@ -25,38 +25,38 @@ suc-mod i j R h =
     ∙ ap (λ (k : ℕ). k % R) (add-one j)
 
 module _ (w : Width) (l : ℕ) where
-  begun-mod : (m : ℕ) (s : State) (i j : ℕ) → i % rate w ≡ j % rate w → begun w l m s i ≡ begun w l m s j
-  unfolding begun
-  begun-mod m s i j h = ap (λ (k : ℕ). cond (eqb k 0) (entered w l m s) s) h
+  entered-mod : (m : ℕ) (s : State) (i j : ℕ) → i % rate w ≡ j % rate w → enteredAt w l m s i ≡ enteredAt w l m s j
+  unfolding enteredAt
+  entered-mod m s i j h = ap (λ (k : ℕ). cond (eqb k 0) (entered w l m s) s) h
 
   -- only the place in the block counts
   pub fed-mod : (m : ℕ) (d : List ℕ) (s : State) (i j : ℕ) → i % rate w ≡ j % rate w → fed w l m s i d ≡ fed w l m s j d
   unfolding fed
   fed-mod m [] s i j h = refl
   fed-mod m (b ∷ d) s i j h =
-      let t : State = xorBlock w (begun w l m s i) (placed (i % rate w) (b ∷ [])) in
+      let t : State = xorBlock w (enteredAt w l m s i) (placed (i % rate w) (b ∷ [])) in
       fed-mod m d t (suc i) (suc j) (suc-mod i j (rate w) h)
-      ∙ ap₂ (λ (x : State) (k : ℕ). fed w l m (xorBlock w x (placed k (b ∷ []))) (suc j) d) (begun-mod m s i j h) h
+      ∙ ap₂ (λ (x : State) (k : ℕ). fed w l m (xorBlock w x (placed k (b ∷ []))) (suc j) d) (entered-mod m s i j h) h
 
   pub text-mod : (d : List ℕ) (s : State) (i j : ℕ) → i % rate w ≡ j % rate w → fedText w l s i d ≡ fedText w l s j d
   unfolding fedText
   text-mod [] s i j h = refl
   text-mod (b ∷ d) s i j h =
-      let t : State = xorBlock w (begun w l bodyMark s i) (placed (i % rate w) (b ∷ [])) in
-      let u : State = xorBlock w (begun w l bodyMark s j) (placed (j % rate w) (b ∷ [])) in
-      let e : t ≡ u = ap₂ (λ (x : State) (k : ℕ). xorBlock w x (placed k (b ∷ []))) (begun-mod bodyMark s i j h) h in
+      let t : State = xorBlock w (enteredAt w l bodyMark s i) (placed (i % rate w) (b ∷ [])) in
+      let u : State = xorBlock w (enteredAt w l bodyMark s j) (placed (j % rate w) (b ∷ [])) in
+      let e : t ≡ u = ap₂ (λ (x : State) (k : ℕ). xorBlock w x (placed k (b ∷ []))) (entered-mod bodyMark s i j h) h in
       λ k. getD (rateOf w (e k)) (h k) 0 ∷ (text-mod d t (suc i) (suc j) (suc-mod i j (rate w) h) ∙ ap (λ (x : State). fedText w l x (suc j) d) e) k
 
   pub unfed-mod : (c : List ℕ) (s : State) (i j : ℕ) → i % rate w ≡ j % rate w → unfed w l s i c ≡ unfed w l s j c
   unfolding unfed
   unfed-mod [] s i j h = refl
   unfed-mod (y ∷ c) s i j h =
-      let x : ℕ = bitXor (getD (rateOf w (begun w l bodyMark s i)) (i % rate w) 0) y in
-      let z : ℕ = bitXor (getD (rateOf w (begun w l bodyMark s j)) (j % rate w) 0) y in
-      let e : x ≡ z = ap₂ (λ (u : State) (k : ℕ). bitXor (getD (rateOf w u) k 0) y) (begun-mod bodyMark s i j h) h in
-      let t : State = xorBlock w (begun w l bodyMark s i) (placed (i % rate w) (x ∷ [])) in
-      let u : State = xorBlock w (begun w l bodyMark s j) (placed (j % rate w) (z ∷ [])) in
-      let f : t ≡ u = λ k. xorBlock w (begun-mod bodyMark s i j h k) (placed (h k) (e k ∷ [])) in
+      let x : ℕ = bitXor (getD (rateOf w (enteredAt w l bodyMark s i)) (i % rate w) 0) y in
+      let z : ℕ = bitXor (getD (rateOf w (enteredAt w l bodyMark s j)) (j % rate w) 0) y in
+      let e : x ≡ z = ap₂ (λ (u : State) (k : ℕ). bitXor (getD (rateOf w u) k 0) y) (entered-mod bodyMark s i j h) h in
+      let t : State = xorBlock w (enteredAt w l bodyMark s i) (placed (i % rate w) (x ∷ [])) in
+      let u : State = xorBlock w (enteredAt w l bodyMark s j) (placed (j % rate w) (z ∷ [])) in
+      let f : t ≡ u = λ k. xorBlock w (entered-mod bodyMark s i j h k) (placed (h k) (e k ∷ [])) in
       λ k. e k ∷ (unfed-mod c t (suc i) (suc j) (suc-mod i j (rate w) h) ∙ ap (λ (v : State). unfed w l v (suc j) c) f) k
 
   pub fed-nil : (m : ℕ) (s : State) (i j : ℕ) (x : List ℕ) → length x ≡ 0 → fed w l m s i x ≡ fed w l m s j x
@@ -74,7 +74,7 @@ module _ (w : Width) (l : ℕ) where
   unfed-nil s i j [] e = refl
   unfed-nil s i j (b ∷ x) e = let z : ⊥ = omega arith in absurd z
 
-  -- a piece d after n bytes: its first k bytes fill the begun block, and the rest begins a block of its own
+  -- a piece d after n bytes: its first k bytes go on in a block, and the rest begins a block of its own
   module _ (d : List ℕ) (s : State) (n k : ℕ) (h : k ≤ length d) (c : (length (drop k d) ≡ 0) ⊎ ((n % rate w + k) % rate w ≡ 0)) where
     within : n % rate w + length (take k d) ≡ n % rate w + k
     within = ap (λ (x : ℕ). n % rate w + x) (length-take-le k d h)

@@ -7,8 +7,8 @@ use Prim.Native.Nat.{ℕ, zero, suc, _%_}
 use lib.Bits.{xor-zero-r}
 use lib.Dec.{eqb}
 use Rattle.norx.specs.Norx.{Width, rate, State, row, rows, rowOf, xorRow, F, P, onDiagonals, constants, keyed, start, xorBlock, marked, entered}
-use Rattle.norx.specs.Turns.{taken}
-use Rattle.norx.specs.Stream.{begun, fed, ended}
+use Rattle.norx.specs.Turns.{afterTurns}
+use Rattle.norx.specs.Stream.{enteredAt, fed, ended}
 use Rattle.norx.proofs.Owned.{Whole, four, four-rows}
 
 pub data Shaped : State → Type 0 where
@@ -44,25 +44,25 @@ module _ (w : Width) (l m : ℕ) where
   shaped-cond true s h = shaped-entered s h
   shaped-cond false s h = h
 
-  shaped-begun : (s : State) (i : ℕ) → Shaped s → Shaped (begun w l m s i)
-  unfolding begun
-  shaped-begun s i h = shaped-cond (eqb (i % rate w) 0) s h
+  shaped-enteredAt : (s : State) (i : ℕ) → Shaped s → Shaped (enteredAt w l m s i)
+  unfolding enteredAt
+  shaped-enteredAt s i h = shaped-cond (eqb (i % rate w) 0) s h
 
   pub shaped-fed : (d : List ℕ) (s : State) (i : ℕ) → Shaped s → Shaped (fed w l m s i d)
   unfolding fed
   shaped-fed [] s i h = h
-  shaped-fed (b ∷ d) s i h = shaped-fed d _ (suc i) (shaped-xorBlock w (begun w l m s i) _ (shaped-begun s i h))
+  shaped-fed (b ∷ d) s i h = shaped-fed d _ (suc i) (shaped-xorBlock w (enteredAt w l m s i) _ (shaped-enteredAt s i h))
 
   pub shaped-ended : (s : State) (n : ℕ) → Shaped s → Shaped (ended w l m s n)
   unfolding ended
   shaped-ended s zero h = h
-  shaped-ended s (suc n) h = shaped-xorBlock w (begun w l m s (suc n)) _ (shaped-begun s (suc n) h)
+  shaped-ended s (suc n) h = shaped-xorBlock w (enteredAt w l m s (suc n)) _ (shaped-enteredAt s (suc n) h)
 
-  pub shaped-taken : (opening : Bool) (s : State) (d : List ℕ) (i : ℕ) → Shaped s → Shaped (taken w l m opening s d i)
-  unfolding taken
-  shaped-taken opening s d zero h = h
-  shaped-taken true s d (suc i) h = shaped-xorBlock w (entered w l m (taken w l m true s d i)) _ (shaped-entered _ (shaped-taken true s d i h))
-  shaped-taken false s d (suc i) h = shaped-xorBlock w (entered w l m (taken w l m false s d i)) _ (shaped-entered _ (shaped-taken false s d i h))
+  pub shaped-turns : (opening : Bool) (s : State) (d : List ℕ) (i : ℕ) → Shaped s → Shaped (afterTurns w l m opening s d i)
+  unfolding afterTurns
+  shaped-turns opening s d zero h = h
+  shaped-turns true s d (suc i) h = shaped-xorBlock w (entered w l m (afterTurns w l m true s d i)) _ (shaped-entered _ (shaped-turns true s d i h))
+  shaped-turns false s d (suc i) h = shaped-xorBlock w (entered w l m (afterTurns w l m false s d i)) _ (shaped-entered _ (shaped-turns false s d i h))
 
 -- a state that code holds
 pub shaped-whole : (w : Width) (s : State) → Whole w s → Shaped s

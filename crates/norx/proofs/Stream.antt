@@ -12,12 +12,13 @@ use lib.Arith.{digits-mod}
 use lib.ListN.{length, take, drop, length-drop, take-append-drop}
 use lib.Seq.{take-add, length-take-le}
 use Rattle.norx.specs.Norx.{Width, rate, run, State, xorBlock, entered, padded, afterBlocks, afterPart}
-use Rattle.norx.specs.Stream.{placed, begun, fed, ended}
+use Rattle.norx.specs.Stream.{placed, enteredAt, fed, ended}
 use Rattle.norx.proofs.Bytes.{Bytes, zeros, bytes-drop, bytes-take, bytes-run, bytes-padded, bytes-zeros}
 use Rattle.norx.proofs.Slices.{empty, blocks-le}
 use Rattle.norx.proofs.Overlay.{block-twice, bytes-placed, placed-more, padded-split}
 use Rattle.norx.proofs.Rate.{length-run}
-use Rattle.norx.proofs.Blocks.{rate-pos, fulls, left, left-short, after-suc, part-none, part-last}
+use Rattle.norx.specs.Blocks.{fulls, left}
+use Rattle.norx.proofs.Blocks.{rate-pos, left-short, after-suc, part-none, part-last}
 
 pub mod-suc : (i R : ℕ) → suc (i % R) < R → suc i % R ≡ suc (i % R)
 mod-suc i R h =
@@ -25,13 +26,13 @@ mod-suc i R h =
     ap (λ (k : ℕ). k % R) e ∙ digits-mod (i / R) h
 
 module _ (w : Width) (l m : ℕ) where
-  pub begun-start : (s : State) (i : ℕ) → i % rate w ≡ 0 → begun w l m s i ≡ entered w l m s
-  unfolding begun
-  begun-start s i h = ap (λ (b : Bool). cond b (entered w l m s) s) (eq-eqb (i % rate w) 0 h)
+  pub entered-start : (s : State) (i : ℕ) → i % rate w ≡ 0 → enteredAt w l m s i ≡ entered w l m s
+  unfolding enteredAt
+  entered-start s i h = ap (λ (b : Bool). cond b (entered w l m s) s) (eq-eqb (i % rate w) 0 h)
 
-  pub begun-within : (s : State) (i : ℕ) → (i % rate w ≡ 0 → ⊥) → begun w l m s i ≡ s
-  unfolding begun
-  begun-within s i h = ap (λ (b : Bool). cond b (entered w l m s) s) (ne-eqb (i % rate w) 0 h)
+  pub entered-within : (s : State) (i : ℕ) → (i % rate w ≡ 0 → ⊥) → enteredAt w l m s i ≡ s
+  unfolding enteredAt
+  entered-within s i h = ap (λ (b : Bool). cond b (entered w l m s) s) (ne-eqb (i % rate w) 0 h)
 
   -- pieces may be cut anywhere
   pub fed-append : (a b : List ℕ) (s : State) (i : ℕ) → fed w l m s i (a ++ b) ≡ fed w l m (fed w l m s i a) (i + length a) b
@@ -41,25 +42,25 @@ module _ (w : Width) (l m : ℕ) where
 
   -- what stays within a block is one xor of the bytes at their place
   pub fed-within : (d : List ℕ) (b : ℕ) (s : State) (i : ℕ) → i % rate w + suc (length d) ≤ rate w → Bytes (b ∷ d)
-      → fed w l m s i (b ∷ d) ≡ xorBlock w (begun w l m s i) (placed (i % rate w) (b ∷ d))
+      → fed w l m s i (b ∷ d) ≡ xorBlock w (enteredAt w l m s i) (placed (i % rate w) (b ∷ d))
   unfolding fed
   fed-within [] b s i h hb = refl
   fed-within (c ∷ d) b s i h hb =
-      let t : State = xorBlock w (begun w l m s i) (placed (i % rate w) (b ∷ [])) in
+      let t : State = xorBlock w (enteredAt w l m s i) (placed (i % rate w) (b ∷ [])) in
       let e : suc i % rate w ≡ suc (i % rate w) = mod-suc i (rate w) (omega arith) in
       let z : suc i % rate w ≡ 0 → ⊥ = λ q. omega arith in
       fed-within d c t (suc i) (omega arith) (λ j. hb (suc j))
-      ∙ ap₂ (λ (u : State) (k : ℕ). xorBlock w u (placed k (c ∷ d))) (begun-within t (suc i) z) e
-      ∙ block-twice w (begun w l m s i) (placed (i % rate w) (b ∷ [])) (placed (suc (i % rate w)) (c ∷ d))
+      ∙ ap₂ (λ (u : State) (k : ℕ). xorBlock w u (placed k (c ∷ d))) (entered-within t (suc i) z) e
+      ∙ block-twice w (enteredAt w l m s i) (placed (i % rate w) (b ∷ [])) (placed (suc (i % rate w)) (c ∷ d))
       (bytes-placed (i % rate w) (b ∷ []) (bytes-take 1 (b ∷ c ∷ d) hb)) (bytes-placed (suc (i % rate w)) (c ∷ d) (λ j. hb (suc j)))
-      ∙ ap (xorBlock w (begun w l m s i)) (placed-more (i % rate w) b (c ∷ d))
+      ∙ ap (xorBlock w (enteredAt w l m s i)) (placed-more (i % rate w) b (c ∷ d))
 
   pub fed-some : (d : List ℕ) (s : State) (i : ℕ) → 0 < length d → i % rate w + length d ≤ rate w → Bytes d
-      → fed w l m s i d ≡ xorBlock w (begun w l m s i) (placed (i % rate w) d)
+      → fed w l m s i d ≡ xorBlock w (enteredAt w l m s i) (placed (i % rate w) d)
   fed-some [] s i p h hb = absurd (not-suc-le-zero p)
   fed-some (b ∷ d) s i p h hb = fed-within d b s i h hb
 
-  pub ended-some : (s : State) (n : ℕ) → 0 < n → ended w l m s n ≡ xorBlock w (begun w l m s n) (padded (rate w) (zeros (n % rate w)))
+  pub ended-some : (s : State) (n : ℕ) → 0 < n → ended w l m s n ≡ xorBlock w (enteredAt w l m s n) (padded (rate w) (zeros (n % rate w)))
   unfolding ended
   ended-some s zero h = absurd (not-suc-le-zero h)
   ended-some s (suc n) h = refl
@@ -82,7 +83,7 @@ module _ (w : Width) (l m : ℕ) where
         ∙ fed-append (take (q * R) d) (run R q d) s 0
         ∙ ap₂ (λ (t : State) (k : ℕ). fed w l m t k (run R q d)) (fed-fulls q (omega arith)) at
         ∙ fed-some (run R q d) (afterBlocks w l m s d q) (q * R) (omega arith) (omega arith) (bytes-run R q d bytes)
-        ∙ ap₂ (λ (t : State) (k : ℕ). xorBlock w t (placed k (run R q d))) (begun-start (afterBlocks w l m s d q) (q * R) whole) whole
+        ∙ ap₂ (λ (t : State) (k : ℕ). xorBlock w t (placed k (run R q d))) (entered-start (afterBlocks w l m s d q) (q * R) whole) whole
         ∙ after-suc w l m s d q h
 
     abbrev full : State
@@ -108,7 +109,7 @@ module _ (w : Width) (l m : ℕ) where
     unfolding fed
     end-whole h p =
         ended-some (fed w l m s 0 d) (length d) p
-        ∙ ap₂ (λ (t : State) (k : ℕ). xorBlock w t (padded (rate w) (zeros k))) (begun-start (fed w l m s 0 d) (length d) (left-mod ∙ h)) (left-mod ∙ h)
+        ∙ ap₂ (λ (t : State) (k : ℕ). xorBlock w t (padded (rate w) (zeros k))) (entered-start (fed w l m s 0 d) (length d) (left-mod ∙ h)) (left-mod ∙ h)
         ∙ ap₂ (λ (t : State) (x : List ℕ). xorBlock w (entered w l m t) (padded (rate w) x))
         (fed-left ∙ ap (fed w l m full (fulls w d * rate w)) (empty (left w d) h)) (sym (empty (left w d) h))
 
@@ -122,10 +123,10 @@ module _ (w : Width) (l m : ℕ) where
         let bx : Bytes x = bytes-drop (fulls w d * R) d bytes in
         let t : fed w l m s 0 d ≡ xorBlock w (entered w l m full) x =
         fed-left ∙ fed-some x full (fulls w d * R) h (omega arith) bx
-        ∙ ap₂ (λ (t : State) (k : ℕ). xorBlock w t (placed k x)) (begun-start full (fulls w d * R) whole) whole in
+        ∙ ap₂ (λ (t : State) (k : ℕ). xorBlock w t (placed k x)) (entered-start full (fulls w d * R) whole) whole in
         ended-some (fed w l m s 0 d) (length d) p
         ∙ ap₂ (λ (t : State) (k : ℕ). xorBlock w t (padded R (zeros k)))
-        (begun-within (fed w l m s 0 d) (length d) (λ e. omega (arith, left-mod)) ∙ t) left-mod
+        (entered-within (fed w l m s 0 d) (length d) (λ e. omega (arith, left-mod)) ∙ t) left-mod
         ∙ block-twice w (entered w l m full) x (padded R (zeros (length x))) bx (bytes-padded R (zeros (length x)) (bytes-zeros (length x)))
         ∙ ap (xorBlock w (entered w l m full)) (padded-split R x small)
 

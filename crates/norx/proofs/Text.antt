@@ -10,15 +10,16 @@ use lib.Bits.{bitXor, xor-zero-r}
 use lib.ListN.{length, getD, take, drop, length-drop, take-append-drop}
 use lib.Seq.{take-add, take-all, length-take-le, drop-cons}
 use Rattle.norx.specs.Norx.{Width, rate, run, xors, State, xorBlock, entered, padded, rateOf, afterBlocks, afterPart, bodyMark, cipherBlocks, ciphertext}
-use Rattle.norx.specs.Stream.{placed, begun, fed, fedText}
+use Rattle.norx.specs.Stream.{placed, enteredAt, fed, fedText}
 use Rattle.norx.proofs.Xor.{getD-xors, take-xors}
 use Rattle.norx.proofs.Bytes.{Bytes, bytes-drop, bytes-run, bytes-padded}
 use Rattle.norx.proofs.Words.{length-rateOf}
 use Rattle.norx.proofs.Slices.{empty, blocks-le}
 use Rattle.norx.proofs.Rate.{rate-add, length-run}
 use Rattle.norx.proofs.Overlay.{rate-add-short, bytes-placed, length-placed, length-padded, take-padded}
-use Rattle.norx.proofs.Blocks.{rate-pos, fulls, left, left-short, part-last, cipher-suc, ciphertext-is}
-use Rattle.norx.proofs.Stream.{mod-suc, begun-start, begun-within, fed-append, fed-within, fed-some, fed-fulls}
+use Rattle.norx.specs.Blocks.{fulls, left}
+use Rattle.norx.proofs.Blocks.{rate-pos, left-short, part-last, cipher-suc, ciphertext-is}
+use Rattle.norx.proofs.Stream.{mod-suc, entered-start, entered-within, fed-append, fed-within, fed-some, fed-fulls}
 
 getD-placed : (j : ℕ) (d : List ℕ) → _≡_ {A = ℕ} (getD (placed (suc j) d) j 0) 0
 getD-placed zero d = refl
@@ -36,17 +37,17 @@ module _ (w : Width) (l : ℕ) where
       → fedText w l s i (b ∷ d) ≡ take (suc (length d)) (drop (i % rate w) (rateOf w (fed w l bodyMark s i (b ∷ d))))
   unfolding fed fedText
   text-within [] b s i h hb =
-      let t : State = xorBlock w (begun w l bodyMark s i) (placed (i % rate w) (b ∷ [])) in
+      let t : State = xorBlock w (enteredAt w l bodyMark s i) (placed (i % rate w) (b ∷ [])) in
       sym (ap (take 1) (drop-cons (rateOf w t) (i % rate w) 0 (omega (arith, length-rateOf w t))))
   text-within (c ∷ d) b s i h hb =
       let j : ℕ = i % rate w in
-      let t : State = xorBlock w (begun w l bodyMark s i) (placed (i % rate w) (b ∷ [])) in
+      let t : State = xorBlock w (enteredAt w l bodyMark s i) (placed (i % rate w) (b ∷ [])) in
       let u : State = fed w l bodyMark t (suc i) (c ∷ d) in
       let e : suc i % rate w ≡ suc (i % rate w) = mod-suc i (rate w) (omega arith) in
       let z : suc i % rate w ≡ 0 → ⊥ = λ q. omega arith in
       let is : u ≡ xorBlock w t (placed (suc j) (c ∷ d)) =
       fed-within w l bodyMark d c t (suc i) (omega arith) (λ k. hb (suc k))
-      ∙ ap₂ (λ (x : State) (k : ℕ). xorBlock w x (placed k (c ∷ d))) (begun-within w l bodyMark t (suc i) z) e in
+      ∙ ap₂ (λ (x : State) (k : ℕ). xorBlock w x (placed k (c ∷ d))) (entered-within w l bodyMark t (suc i) z) e in
       let head : getD (rateOf w u) j 0 ≡ getD (rateOf w t) j 0 =
       ap (λ (x : State). getD (rateOf w x) j 0) is ∙ kept t j (c ∷ d) (omega arith) (λ k. hb (suc k)) in
       (λ k. sym head k ∷ text-within d c t (suc i) (omega arith) (λ k. hb (suc k)) k)
@@ -64,7 +65,7 @@ module _ (w : Width) (l : ℕ) where
   unfolding fed fedText
   text-append [] b s i = rw add-zero
   text-append (x ∷ a) b s i =
-      let t : State = xorBlock w (begun w l bodyMark s i) (placed (i % rate w) (x ∷ [])) in
+      let t : State = xorBlock w (enteredAt w l bodyMark s i) (placed (i % rate w) (x ∷ [])) in
       ap (λ (d : List ℕ). getD (rateOf w t) (i % rate w) 0 ∷ d) (text-append a b t (suc i) ∙ rw (suc-add, add-suc))
 
   text-nil : (s : State) (i : ℕ) → fedText w l s i [] ≡ []
@@ -116,7 +117,7 @@ module _ (w : Width) (l : ℕ) where
         let bx : Bytes x = bytes-drop (fulls w d * R) d bytes in
         let fedIs : fed w l bodyMark f (fulls w d * R) x ≡ xorBlock w (entered w l bodyMark f) x =
         fed-some w l bodyMark x f (fulls w d * R) p (omega arith) bx
-        ∙ ap₂ (λ (t : State) (k : ℕ). xorBlock w t (placed k x)) (begun-start w l bodyMark f (fulls w d * R) whole) whole in
+        ∙ ap₂ (λ (t : State) (k : ℕ). xorBlock w t (placed k x)) (entered-start w l bodyMark f (fulls w d * R) whole) whole in
         text-some x f (fulls w d * R) p (omega arith) bx
         ∙ (λ k. take (length x) (drop (whole k) (rateOf w (fedIs k))))
         ∙ ap (take (length x)) (rate-add-short w (entered w l bodyMark f) x (omega arith) bx)

@@ -16,7 +16,7 @@ use Rattle.norx.specs.Norx.{Width, word32, word64, rate, wordOf, run, xo
 use Rattle.norx.proofs.Bytes.{Bytes, bytes-run}
 use Rattle.norx.proofs.Words.{length-rateOf}
 use Rattle.norx.proofs.Rate.{length-run, rate-add}
-use Rattle.norx.specs.Turns.{put, taken, shown}
+use Rattle.norx.specs.Turns.{put, afterTurns, shown}
 use Rattle.norx.proofs.Slices.{put-next}
 use Rattle.norx.proofs.Owned.{four, Whole, four-rows}
 use Rattle.norx.proofs.Blocks.{after-suc, cipher-suc}
@@ -27,7 +27,7 @@ module _ (w : Width) (l m : ℕ) (opening : Bool) (s : State) (d : List ℕ) whe
   unfolding shown
   length-shown zero = omega arith
   length-shown (suc i) =
-      let x : State = xorBlock w (entered w l m (taken w l m opening s d i)) (run (rate w) i d) in
+      let x : State = xorBlock w (entered w l m (afterTurns w l m opening s d i)) (run (rate w) i d) in
       length-append (shown w l m opening s d i) (rateOf w x) ∙ ap₂ (λ (a b : ℕ). a + b) (length-shown i) (length-rateOf w x) ∙ sym (suc-mul i (rate w))
 
   -- no block yet
@@ -37,20 +37,20 @@ module _ (w : Width) (l m : ℕ) (opening : Bool) (s : State) (d : List ℕ) whe
   shown-none false o = refl
 
   -- one block more
-  module _ (i : ℕ) {t e : State} {b : List ℕ} (ht : t ≡ taken w l m opening s d i) (he : e ≡ entered w l m t) (hb : b ≡ run (rate w) i d) where
-    ready : e ≡ entered w l m (taken w l m opening s d i)
+  module _ (i : ℕ) {t e : State} {b : List ℕ} (ht : t ≡ afterTurns w l m opening s d i) (he : e ≡ entered w l m t) (hb : b ≡ run (rate w) i d) where
+    ready : e ≡ entered w l m (afterTurns w l m opening s d i)
     ready = he ∙ ap (entered w l m) ht
 
-    pub taken-next : {u : State} → u ≡ cond opening (xorBlock w e (xors (rateOf w e) b)) (xorBlock w e b) → u ≡ taken w l m opening s d (i + 1)
-    unfolding taken
-    taken-next hu = rw add-one (hu ∙ (λ k. cond opening (xorBlock w (ready k) (xors (rateOf w (ready k)) (hb k))) (xorBlock w (ready k) (hb k))))
+    pub turns-next : {u : State} → u ≡ cond opening (xorBlock w e (xors (rateOf w e) b)) (xorBlock w e b) → u ≡ afterTurns w l m opening s d (i + 1)
+    unfolding afterTurns
+    turns-next hu = rw add-one (hu ∙ (λ k. cond opening (xorBlock w (ready k) (xors (rateOf w (ready k)) (hb k))) (xorBlock w (ready k) (hb k))))
 
     pub shown-next : (writing : Bool) (o : List ℕ) {out new : List ℕ} → out ≡ cond writing (shown w l m opening s d i ++ drop (i * rate w) o) o
         → new ≡ cond writing (put out (i * rate w) (rateOf w (xorBlock w e b)) (rate w)) out
         → new ≡ cond writing (shown w l m opening s d (i + 1) ++ drop ((i + 1) * rate w) o) o
     unfolding shown
     shown-next true o ho hn =
-        let y : List ℕ = rateOf w (xorBlock w (entered w l m (taken w l m opening s d i)) (run (rate w) i d)) in
+        let y : List ℕ = rateOf w (xorBlock w (entered w l m (afterTurns w l m opening s d i)) (run (rate w) i d)) in
         let hy : rateOf w (xorBlock w e b) ≡ y = ap₂ (λ (z : State) (p : List ℕ). rateOf w (xorBlock w z p)) ready hb in
         rw add-one
         (hn ∙ (λ k. put (ho k) (i * rate w) (hy k) (rate w))
@@ -75,17 +75,17 @@ written a b p q r o h hn hp = hn ∙ ap (λ (t : Bool). cond t (p ++ r) o) (eq-e
 
 module _ (w : Width) (l m : ℕ) (s : State) (d : List ℕ) where
   -- blocks taken in as they are
-  pub taken-plain : (i : ℕ) → i * rate w ≤ length d → taken w l m false s d i ≡ afterBlocks w l m s d i
-  unfolding taken afterBlocks
-  taken-plain zero h = refl
-  taken-plain (suc i) h =
+  pub turns-plain : (i : ℕ) → i * rate w ≤ length d → afterTurns w l m false s d i ≡ afterBlocks w l m s d i
+  unfolding afterTurns afterBlocks
+  turns-plain zero h = refl
+  turns-plain (suc i) h =
       let le : i * rate w + rate w ≤ length d = rw (suc-mul i (rate w)) at h in
-      ap (λ (t : State). xorBlock w (entered w l m t) (run (rate w) i d)) (taken-plain i (omega arith)) ∙ after-suc w l m s d i h
+      ap (λ (t : State). xorBlock w (entered w l m t) (run (rate w) i d)) (turns-plain i (omega arith)) ∙ after-suc w l m s d i h
 
   -- one block alone
-  pub taken-one : length d ≡ rate w → taken w l m false s d 1 ≡ xorBlock w (entered w l m s) d
-  unfolding taken
-  taken-one h = ap (λ (k : ℕ). xorBlock w (entered w l m s) (take (rate w) (drop k d))) (zero-mul (rate w)) ∙ ap (xorBlock w (entered w l m s)) (take-all (rate w) d (omega arith))
+  pub turns-one : length d ≡ rate w → afterTurns w l m false s d 1 ≡ xorBlock w (entered w l m s) d
+  unfolding afterTurns
+  turns-one h = ap (λ (k : ℕ). xorBlock w (entered w l m s) (take (rate w) (drop k d))) (zero-mul (rate w)) ∙ ap (xorBlock w (entered w l m s)) (take-all (rate w) d (omega arith))
 
 module _ (w : Width) (l : ℕ) (s : State) (d : List ℕ) where
   pub shown-plain : (i : ℕ) → i * rate w ≤ length d → shown w l bodyMark false s d i ≡ cipherBlocks w l s d i
@@ -94,16 +94,16 @@ module _ (w : Width) (l : ℕ) (s : State) (d : List ℕ) where
   shown-plain (suc i) h =
       let le : i * rate w + rate w ≤ length d = rw (suc-mul i (rate w)) at h in
       ap₂ (λ (p : List ℕ) (t : State). p ++ rateOf w t) (shown-plain i (omega arith))
-      (ap (λ (t : State). xorBlock w (entered w l bodyMark t) (run (rate w) i d)) (taken-plain w l bodyMark s d i (omega arith)) ∙ after-suc w l bodyMark s d i h)
+      (ap (λ (t : State). xorBlock w (entered w l bodyMark t) (run (rate w) i d)) (turns-plain w l bodyMark s d i (omega arith)) ∙ after-suc w l bodyMark s d i h)
       ∙ cipher-suc w l s d i h
 
   -- blocks of ciphertext
-  pub taken-opened : (i : ℕ) → i * rate w ≤ length d → taken w l bodyMark true s d i ≡ afterBlocks w l bodyMark s (messageBlocks w l s d i) i
-  unfolding taken afterBlocks
-  taken-opened zero h = refl
-  taken-opened (suc i) h =
+  pub turns-opened : (i : ℕ) → i * rate w ≤ length d → afterTurns w l bodyMark true s d i ≡ afterBlocks w l bodyMark s (messageBlocks w l s d i) i
+  unfolding afterTurns afterBlocks
+  turns-opened zero h = refl
+  turns-opened (suc i) h =
       let le : i * rate w + rate w ≤ length d = rw (suc-mul i (rate w)) at h in
-      ap (λ (t : State). xorBlock w (entered w l bodyMark t) (xors (rateOf w (entered w l bodyMark t)) (run (rate w) i d))) (taken-opened i (omega arith))
+      ap (λ (t : State). xorBlock w (entered w l bodyMark t) (xors (rateOf w (entered w l bodyMark t)) (run (rate w) i d))) (turns-opened i (omega arith))
       ∙ state-suc w l s d i h
 
   pub shown-opened : Bytes d → (i : ℕ) → i * rate w ≤ length d → shown w l bodyMark true s d i ≡ messageBlocks w l s d i
@@ -111,7 +111,7 @@ module _ (w : Width) (l : ℕ) (s : State) (d : List ℕ) where
   shown-opened hd zero h = refl
   shown-opened hd (suc i) h =
       let le : i * rate w + rate w ≤ length d = rw (suc-mul i (rate w)) at h in
-      ap₂ (λ (p : List ℕ) (t : State). p ++ rateOf w (xorBlock w (entered w l bodyMark t) (run (rate w) i d))) (shown-opened hd i (omega arith)) (taken-opened i (omega arith))
+      ap₂ (λ (p : List ℕ) (t : State). p ++ rateOf w (xorBlock w (entered w l bodyMark t) (run (rate w) i d))) (shown-opened hd i (omega arith)) (turns-opened i (omega arith))
       ∙ ap (λ (x : List ℕ). messageBlocks w l s d i ++ x) (rate-add w (readied w l s d i) (run (rate w) i d) (length-run (rate w) i d h) (bytes-run (rate w) i d hd))
       ∙ message-suc w l s d i h
 

@@ -9,16 +9,17 @@ use lib.Bits.{bitXor, xor-lt}
 use lib.ListN.{length, getD, take, drop, take-append-drop}
 use lib.Seq.{take-add, take-all, length-take-le, drop-cons}
 use Rattle.norx.specs.Norx.{Width, rate, run, xors, State, xorBlock, rateOf, afterBlocks, bodyMark, messageBlocks, message}
-use Rattle.norx.specs.Stream.{placed, begun, fed, fedText, unfed}
+use Rattle.norx.specs.Stream.{placed, enteredAt, fed, fedText, unfed}
 use Rattle.norx.proofs.Xor.{twice-xor, getD-xors, drop-xors, xors-nil}
 use Rattle.norx.proofs.Bytes.{Bytes, bytes-nil, bytes-cons, bytes-take, bytes-drop, bytes-rate, bytes-run}
 use Rattle.norx.proofs.Words.{length-rateOf}
 use Rattle.norx.proofs.Slices.{blocks-le}
 use Rattle.norx.proofs.Rate.{length-run}
 use Rattle.norx.proofs.Overlay.{rate-add-short, bytes-placed, length-placed}
-use Rattle.norx.proofs.Blocks.{rate-pos, fulls, left, left-short}
+use Rattle.norx.specs.Blocks.{fulls, left}
+use Rattle.norx.proofs.Blocks.{rate-pos, left-short}
 use Rattle.norx.proofs.Messages.{readied, length-messageBlocks, message-is}
-use Rattle.norx.proofs.Stream.{mod-suc, begun-start, begun-within, fed-fulls}
+use Rattle.norx.proofs.Stream.{mod-suc, entered-start, entered-within, fed-fulls}
 
 one : (b : ℕ) → b < 256 → Bytes (b ∷ [])
 one b h = bytes-cons b [] h bytes-nil
@@ -45,7 +46,7 @@ module _ (w : Width) (l : ℕ) where
   unfolding unfed fedText
   unfed-fedText [] s i h = refl
   unfed-fedText (b ∷ d) s i h =
-      let e : State = begun w l bodyMark s i in
+      let e : State = enteredAt w l bodyMark s i in
       let j : ℕ = i % rate w in
       let x : ℕ = getD (rateOf w e) j 0 in
       let t : State = xorBlock w e (placed j (b ∷ [])) in
@@ -58,7 +59,7 @@ module _ (w : Width) (l : ℕ) where
   unfolding unfed fedText
   fedText-unfed [] s i h = refl
   fedText-unfed (y ∷ c) s i h =
-      let e : State = begun w l bodyMark s i in
+      let e : State = enteredAt w l bodyMark s i in
       let j : ℕ = i % rate w in
       let x : ℕ = getD (rateOf w e) j 0 in
       let b : ℕ = bitXor x y in
@@ -70,14 +71,14 @@ module _ (w : Width) (l : ℕ) where
   unfolding fedText
   bytes-fedText [] s i = bytes-nil
   bytes-fedText (b ∷ d) s i =
-      let t : State = xorBlock w (begun w l bodyMark s i) (placed (i % rate w) (b ∷ [])) in
+      let t : State = xorBlock w (enteredAt w l bodyMark s i) (placed (i % rate w) (b ∷ [])) in
       bytes-cons (getD (rateOf w t) (i % rate w) 0) (fedText w l t (suc i) d) (bytes-rate w t (i % rate w)) (bytes-fedText d t (suc i))
 
   pub bytes-unfed : (c : List ℕ) (s : State) (i : ℕ) → Bytes c → Bytes (unfed w l s i c)
   unfolding unfed
   bytes-unfed [] s i h = bytes-nil
   bytes-unfed (y ∷ c) s i h =
-      let e : State = begun w l bodyMark s i in
+      let e : State = enteredAt w l bodyMark s i in
       let x : ℕ = getD (rateOf w e) (i % rate w) 0 in
       let t : State = xorBlock w e (placed (i % rate w) (bitXor x y ∷ [])) in
       bytes-cons (bitXor x y) (unfed w l t (suc i) c) (xor-lt 8 x y (bytes-rate w e (i % rate w)) (h 0)) (bytes-unfed c t (suc i) (λ k. h (suc k)))
@@ -88,19 +89,19 @@ module _ (w : Width) (l : ℕ) where
   unfolding fed unfed
   unfed-append [] b s i = rw add-zero
   unfed-append (y ∷ a) b s i =
-      let e : State = begun w l bodyMark s i in
+      let e : State = enteredAt w l bodyMark s i in
       let x : ℕ = bitXor (getD (rateOf w e) (i % rate w) 0) y in
       ap (λ (d : List ℕ). x ∷ d) (unfed-append a b (xorBlock w e (placed (i % rate w) (x ∷ []))) (suc i) ∙ rw (suc-add, add-suc))
 
   -- within a block: the rate's bytes after the block's beginning, xored with the ciphertext's
   unfed-within : (c : List ℕ) (y : ℕ) (s : State) (i : ℕ) → i % rate w + suc (length c) ≤ rate w → Bytes (y ∷ c)
-      → unfed w l s i (y ∷ c) ≡ xors (take (suc (length c)) (drop (i % rate w) (rateOf w (begun w l bodyMark s i)))) (y ∷ c)
+      → unfed w l s i (y ∷ c) ≡ xors (take (suc (length c)) (drop (i % rate w) (rateOf w (enteredAt w l bodyMark s i)))) (y ∷ c)
   unfolding unfed xors
   unfed-within [] y s i h hb =
-      let x : List ℕ = rateOf w (begun w l bodyMark s i) in
-      sym (ap (λ (t : List ℕ). xors (take 1 t) (y ∷ [])) (drop-cons x (i % rate w) 0 (omega (arith, length-rateOf w (begun w l bodyMark s i)))))
+      let x : List ℕ = rateOf w (enteredAt w l bodyMark s i) in
+      sym (ap (λ (t : List ℕ). xors (take 1 t) (y ∷ [])) (drop-cons x (i % rate w) 0 (omega (arith, length-rateOf w (enteredAt w l bodyMark s i)))))
   unfed-within (d ∷ c) y s i h hb =
-      let e : State = begun w l bodyMark s i in
+      let e : State = enteredAt w l bodyMark s i in
       let j : ℕ = i % rate w in
       let x : List ℕ = rateOf w e in
       let b : ℕ = bitXor (getD x j 0) y in
@@ -113,12 +114,12 @@ module _ (w : Width) (l : ℕ) where
       ∙ drop-xors (suc j) x (placed j (b ∷ [])) ∙ ap (xors (drop (suc j) x)) (drop-one j b) ∙ xors-nil (drop (suc j) x) in
       ap (λ (r : List ℕ). b ∷ r)
       (unfed-within c d t (suc i) (omega arith) (λ k. hb (suc k))
-      ∙ ap₂ (λ (u : State) (k : ℕ). xors (take (suc (length c)) (drop k (rateOf w u))) (d ∷ c)) (begun-within w l bodyMark t (suc i) z) q
+      ∙ ap₂ (λ (u : State) (k : ℕ). xors (take (suc (length c)) (drop k (rateOf w u))) (d ∷ c)) (entered-within w l bodyMark t (suc i) z) q
       ∙ ap (λ (r : List ℕ). xors (take (suc (length c)) r) (d ∷ c)) rest)
       ∙ sym (ap (λ (r : List ℕ). xors (take (suc (suc (length c))) r) (y ∷ d ∷ c)) (drop-cons x j 0 (omega (arith, length-rateOf w e))))
 
   pub unfed-some : (c : List ℕ) (s : State) (i : ℕ) → i % rate w + length c ≤ rate w → Bytes c
-      → unfed w l s i c ≡ xors (take (length c) (drop (i % rate w) (rateOf w (begun w l bodyMark s i)))) c
+      → unfed w l s i c ≡ xors (take (length c) (drop (i % rate w) (rateOf w (enteredAt w l bodyMark s i)))) c
   unfolding unfed xors
   unfed-some [] s i h hb = refl
   unfed-some (y ∷ c) s i h hb = unfed-within c y s i h hb
@@ -141,7 +142,7 @@ module _ (w : Width) (l : ℕ) where
         ∙ ap₂ (λ (p q : List ℕ). p ++ q) same
         ((λ k. unfed w l (state k) (at k) x)
         ∙ unfed-some x (afterBlocks w l bodyMark s a i) (i * R) (omega arith) bx
-        ∙ ap₂ (λ (k : ℕ) (t : State). xors (take (length x) (drop k (rateOf w t))) x) whole (begun-start w l bodyMark (afterBlocks w l bodyMark s a i) (i * R) whole))
+        ∙ ap₂ (λ (k : ℕ) (t : State). xors (take (length x) (drop k (rateOf w t))) x) whole (entered-start w l bodyMark (afterBlocks w l bodyMark s a i) (i * R) whole))
 
     pub unfed-fulls : (i : ℕ) → i * rate w ≤ length c → unfed w l s 0 (take (i * rate w) c) ≡ messageBlocks w l s c i
     unfolding unfed messageBlocks

@@ -2,22 +2,45 @@
 -- Assumes nothing.
 use mathlib.Core.Bool.{Bool, cond}
 use mathlib.Core.List.{List, [], _++_}
-use Prim.Native.Nat.{ℕ, zero, suc}
-use lib.ListN.{take, drop}
+use Prim.Native.Nat.{ℕ, zero, suc, _*_}
+use lib.Dec.{eqb}
+use lib.ListN.{length, take, drop}
 use Rattle.norx.specs.Norx.{Width, rate, run, xors, State, xorBlock, rateOf, entered}
+use Rattle.norx.specs.Blocks.{fulls}
 
--- what l is once a part of it, n elements from a, was lent and came back as ys
+-- l with ys in the place of the n elements from a on
 abbrev pub put : List ℕ → ℕ → List ℕ → ℕ → List ℕ
 put l a ys n = take a l ++ (ys ++ drop n (drop a l))
 
--- the state after the first i full blocks, each taken in as it is or, in opening, as the message of the ciphertext that it is
-unfoldable pub taken : Width → ℕ → ℕ → Bool → State → List ℕ → ℕ → State
-taken w l m opening s d zero = s
-taken w l m opening s d (suc i) =
-    let e = entered w l m (taken w l m opening s d i) in
-    cond opening (xorBlock w e (xors (rateOf w e) (run (rate w) i d))) (xorBlock w e (run (rate w) i d))
+-- ---- One block b, at a state e to which its mark and P are done
 
--- the bytes that they give: the rate xored with each block
+-- the state that took it in: as it is or, in opening, as the message of the ciphertext that it is
+abbrev pub afterBlock : Width → Bool → State → List ℕ → State
+afterBlock w opening e b = cond opening (xorBlock w e (xors (rateOf w e) b)) (xorBlock w e b)
+
+-- what it gives, either way: the rate xored with it
+abbrev pub shownBlock : Width → State → List ℕ → List ℕ
+shownBlock w e b = rateOf w (xorBlock w e b)
+
+-- an output once that is written at a place of it, where it is asked for
+abbrev pub shownAt : Width → Bool → List ℕ → ℕ → State → List ℕ → List ℕ
+shownAt w writing out at e b = cond writing (put out at (shownBlock w e b) (rate w)) out
+
+-- ---- The first i full blocks of a text
+
+unfoldable pub afterTurns : Width → ℕ → ℕ → Bool → State → List ℕ → ℕ → State
+afterTurns w l m opening s d zero = s
+afterTurns w l m opening s d (suc i) = afterBlock w opening (entered w l m (afterTurns w l m opening s d i)) (run (rate w) i d)
+
 unfoldable pub shown : Width → ℕ → ℕ → Bool → State → List ℕ → ℕ → List ℕ
 shown w l m opening s d zero = []
-shown w l m opening s d (suc i) = shown w l m opening s d i ++ rateOf w (xorBlock w (entered w l m (taken w l m opening s d i)) (run (rate w) i d))
+shown w l m opening s d (suc i) = shown w l m opening s d i ++ shownBlock w (entered w l m (afterTurns w l m opening s d i)) (run (rate w) i d)
+
+-- ---- All of them
+
+abbrev pub turned : Width → ℕ → ℕ → Bool → State → List ℕ → State
+turned w l m opening s d = afterTurns w l m opening s d (fulls w d)
+
+-- what an output as long as the text then holds: what they give, and behind it what it had; an output of another length stays as it was
+abbrev pub turnedOut : Width → ℕ → ℕ → Bool → State → List ℕ → List ℕ → List ℕ
+turnedOut w l m opening s d out = cond (eqb (length out) (length d)) (shown w l m opening s d (fulls w d) ++ drop (fulls w d * rate w) out) out

@@ -17,19 +17,19 @@ use Rattle.places.specs.declared.Standing.{Standing}
 use Rattle.places.specs.declared.Standing.the-variants.{Closed, Open}
 use Rattle.places.specs.declared.Place.{Place}
 use Rattle.places.specs.Terms.{termsOk}
-use Rattle.places.specs.Places.{rankOf, presentOf, limitOf, countOf, moved, withinOf, unreachedOf, soundAt, soundOf, startAnswer, pieceAnswer, closeAnswer, Accepted}
+use Rattle.places.specs.Places.{rankOf, presentOf, limitOf, countOf, moved, countsWithin, unreachedOf, soundAt, soundOf, startAnswer, pieceAnswer, closeAnswer, Accepted}
 use Rattle.places.proofs.Editions.{edition-passed, edition-own}
 
-within-at : (s : Standing) (p : Place) → soundAt s p ≡ true → withinOf p ≡ true
+within-at : (s : Standing) (p : Place) → soundAt s p ≡ true → countsWithin p ≡ true
 within-at Closed p e = absurd (false≢true e)
-within-at (Open part) p e = both (termsOk (p .terms)) (withinOf p) (both (termsOk (p .terms) && withinOf p) (unreachedOf p part) e .0) .1
+within-at (Open part) p e = both (termsOk (p .terms)) (countsWithin p) (both (termsOk (p .terms) && countsWithin p) (unreachedOf p part) e .0) .1
 
-pub sound-within : (p : Place) → soundOf p ≡ true → withinOf p ≡ true
+pub sound-within : (p : Place) → soundOf p ≡ true → countsWithin p ≡ true
 unfolding soundOf
 sound-within p e = within-at (p .standing) p e
 
 -- no count over its limit
-each-within : (p : Place) → withinOf p ≡ true
+each-within : (p : Place) → countsWithin p ≡ true
     → (leb (p .note) (limitOf Note) ≡ true) × (leb (p .body) (limitOf Body) ≡ true) × (leb (p .trailer) (limitOf Trailer) ≡ true)
 each-within p e =
     let first = both (leb (p .note) (limitOf Note) && leb (p .body) (limitOf Body)) (leb (p .trailer) (limitOf Trailer)) e in
@@ -76,13 +76,13 @@ and-true true b e f = f
 and-true false b e f = absurd (false≢true e)
 
 module _ (p : Place) (n : ℕ) where
-  within-moved : (k : Part) → withinOf p ≡ true → leb (countOf p k + n) (limitOf k) ≡ true → withinOf (moved p k n) ≡ true
+  within-moved : (k : Part) → countsWithin p ≡ true → leb (countOf p k + n) (limitOf k) ≡ true → countsWithin (moved p k n) ≡ true
   within-moved k e room =
       let had = each-within p e in
       go k room (had .0) (had .1) (had .2)
     where
       go : (k : Part) → leb (countOf p k + n) (limitOf k) ≡ true → leb (p .note) (limitOf Note) ≡ true → leb (p .body) (limitOf Body) ≡ true → leb (p .trailer) (limitOf Trailer) ≡ true
-          → withinOf (moved p k n) ≡ true
+          → countsWithin (moved p k n) ≡ true
       go Note room a b c = and-true _ _ (and-true _ _ room b) c
       go Body room a b c = and-true _ _ (and-true _ _ a room) c
       go Trailer room a b c = and-true _ _ (and-true _ _ a b) room
@@ -100,11 +100,11 @@ module _ (p : Place) (n : ℕ) where
       → soundAt (Open k) (moved p k n) ≡ true
   sound-at Closed k e o room = absurd (false≢true e)
   sound-at (Open part) k e o room =
-      let first = both (termsOk (p .terms) && withinOf p) (unreachedOf p part) e in
-      let second = both (termsOk (p .terms)) (withinOf p) (first .0) in
+      let first = both (termsOk (p .terms) && countsWithin p) (unreachedOf p part) e in
+      let second = both (termsOk (p .terms)) (countsWithin p) (first .0) in
       go k (second .0) (within-moved k (second .1) room) (unreached-moved part k (first .1) o)
     where
-      go : (k : Part) → termsOk (p .terms) ≡ true → withinOf (moved p k n) ≡ true → unreachedOf (moved p k n) k ≡ true → soundAt (Open k) (moved p k n) ≡ true
+      go : (k : Part) → termsOk (p .terms) ≡ true → countsWithin (moved p k n) ≡ true → unreachedOf (moved p k n) k ≡ true → soundAt (Open k) (moved p k n) ≡ true
       go Note a b c = and-true _ _ (and-true _ _ a b) c
       go Body a b c = and-true _ _ (and-true _ _ a b) c
       go Trailer a b c = and-true _ _ (and-true _ _ a b) c
@@ -117,6 +117,6 @@ module _ (p : Place) (n : ℕ) where
 pub sound-closes : (p : Place) (wanted tag : ℕ) → soundOf p ≡ true → tag ≡ wanted → closeAnswer p (p .terms .edition) wanted tag ≡ Done
 unfolding closeAnswer needOf
 sound-closes p wanted tag e f =
-    let within : withinOf p ≡ true = sound-within p e in
+    let within : countsWithin p ≡ true = sound-within p e in
     let long : eqb tag wanted ≡ true = eq-eqb tag wanted f in
     rw (e, edition-own (p .terms .edition), within, long)

@@ -14,9 +14,9 @@ use Rattle.places.proofs.fresh_place.Reads.{Post as Post-fresh-place}
 use Rattle.places.proofs.rank.{signature as signature-rank}
 use Rattle.places.proofs.rank.Kinds as kinds-rank
 use Rattle.places.proofs.rank.Reads.{Post as Post-rank}
-use Rattle.places.proofs.present.{signature as signature-present}
-use Rattle.places.proofs.present.Kinds as kinds-present
-use Rattle.places.proofs.present.Reads.{Post as Post-present}
+use Rattle.places.proofs.ends.{signature as signature-ends}
+use Rattle.places.proofs.ends.Kinds as kinds-ends
+use Rattle.places.proofs.ends.Reads.{Post as Post-ends}
 use Rattle.places.proofs.exact.{signature as signature-exact}
 use Rattle.places.proofs.exact.Kinds as kinds-exact
 use Rattle.places.proofs.exact.Reads.{Post as Post-exact}
@@ -48,9 +48,9 @@ pub one-rank : (κs : Lfts 0) (a : ArgsD signature-rank κs) (r r′ : ResD sign
     → Post-rank κs a r s → Post-rank κs a r′ s′ → r ≡ r′
 one-rank κs a r r′ s s′ p q = p ∙ sym q
 
-pub one-present : (κs : Lfts 0) (a : ArgsD signature-present κs) (r r′ : ResD signature-present κs) (s s′ : AtExit (endedOf 0 kinds-present.ps kinds-present.r) κs)
-    → Post-present κs a r s → Post-present κs a r′ s′ → r ≡ r′
-one-present κs a r r′ s s′ p q = p ∙ sym q
+pub one-ends : (κs : Lfts 0) (a : ArgsD signature-ends κs) (r r′ : ResD signature-ends κs) (s s′ : AtExit (endedOf 0 kinds-ends.ps kinds-ends.r) κs)
+    → Post-ends κs a r s → Post-ends κs a r′ s′ → r ≡ r′
+one-ends κs a r r′ s s′ p q = p ∙ sym q
 
 pub one-exact : (κs : Lfts 0) (a : ArgsD signature-exact κs) (r r′ : ResD signature-exact κs) (s s′ : AtExit (endedOf 0 kinds-exact.ps kinds-exact.r) κs)
     → Post-exact κs a r s → Post-exact κs a r′ s′ → r ≡ r′

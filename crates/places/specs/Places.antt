@@ -3,7 +3,7 @@
 use Prim.Native.Nat.{ℕ, _+_, _≤_}
 use mathlib.Core.Path.{_≡_}
 use mathlib.Core.Bool.{Bool, true, false, _&&_}
-use lib.Dec.{leb, eqb}
+use lib.Dec.{leb, ltb, eqb}
 use Rattle.norx.specs.Norx.{headerMark, bodyMark, trailerMark}
 use Rattle.norx.specs.Front.{frontBytes}
 use Rattle.answers.specs.declared.Answer.{Answer}
@@ -28,6 +28,10 @@ rankOf Note = 0
 rankOf Body = 1
 rankOf Trailer = 2
 
+-- the rank behind every part
+abbrev pub behindAll : ℕ
+behindAll = 3
+
 abbrev pub limitOf : Part → ℕ
 limitOf Note = longestNote
 limitOf Body = longestBody
@@ -42,8 +46,12 @@ markOf Trailer = trailerMark
 
 -- the rank of the part that a session is open in; of a closed one, behind them all
 abbrev pub presentOf : Standing → ℕ
-presentOf Closed = 3
+presentOf Closed = behindAll
 presentOf (Open part) = rankOf part
+
+-- whether a session that stands so ends a part where it goes on to the part of rank `next`: one from the present part on, and before that
+abbrev pub endsOf : Part → Standing → ℕ → Bool
+endsOf part standing next = leb (presentOf standing) (rankOf part) && ltb (rankOf part) next
 
 -- the bytes of a part accepted so far
 abbrev pub countOf : Place → Part → ℕ
@@ -71,8 +79,8 @@ moved p Trailer n = record { standing = Open Trailer; note = p .note; body = p .
 
 -- ---- Sound: open, its terms in order, no count over its limit, counts of parts not yet reached 0
 
-abbrev pub withinOf : Place → Bool
-withinOf p = leb (p .note) (limitOf Note) && leb (p .body) (limitOf Body) && leb (p .trailer) (limitOf Trailer)
+abbrev pub countsWithin : Place → Bool
+countsWithin p = leb (p .note) (limitOf Note) && leb (p .body) (limitOf Body) && leb (p .trailer) (limitOf Trailer)
 
 abbrev pub unreachedOf : Place → Part → Bool
 unreachedOf p Note = eqb (p .body) 0 && eqb (p .trailer) 0
@@ -81,7 +89,7 @@ unreachedOf p Trailer = true
 
 abbrev pub soundAt : Standing → Place → Bool
 soundAt Closed p = false
-soundAt (Open part) p = termsOk (p .terms) && withinOf p && unreachedOf p part
+soundAt (Open part) p = termsOk (p .terms) && countsWithin p && unreachedOf p part
 
 unfoldable pub soundOf : Place → Bool
 soundOf p = soundAt (p .standing) p
@@ -113,7 +121,7 @@ unfoldable pub closeAnswer : Place → Edition → ℕ → ℕ → Answer
 closeAnswer p edition wanted tag =
     needOf (soundOf p) NotSound
     (ofEdition edition (p .terms .edition)
-    (needOf (withinOf p) OverLimit
+    (needOf (countsWithin p) OverLimit
     (needOf (eqb tag wanted) TagLength Done)))
 
 -- what is known of a piece that is accepted

@@ -16,7 +16,7 @@ use Rattle.places.specs.declared.terms.Terms.{Terms}
 abbrev pub noTerms : Terms
 noTerms = record { rounds = 0; edition = record { revision = 0 } }
 
--- rounds are 4 or 6
+-- terms that a sound session may have: the rounds are 4 or 6
 abbrev pub termsOk : Terms → Bool
 termsOk T = roundsOk (T .rounds)
 

@@ -3,7 +3,7 @@ ghost use mathlib.Core.Path.{_≡_};
 ghost use Prim.Native.Nat.{_+_, _≤_};
 ghost use lib.Dec.{leb};
 ghost use mathlib.Core.Bool.{cond};
-ghost use Rattle.places.specs.Places.{rankOf, limitOf, presentOf, countOf, freshPlace, closedPlace, moved, withinOf, unreachedOf, soundOf, startAnswer, pieceAnswer, closeAnswer, sealExact};
+ghost use Rattle.places.specs.Places.{rankOf, limitOf, presentOf, endsOf, countOf, freshPlace, closedPlace, moved as movedOf, countsWithin, unreachedOf, soundOf, startAnswer, pieceAnswer, closeAnswer, sealExact};
 use crate::terms::Edition;
 use crate::terms::Terms;
 use crate::terms::of_edition;
@@ -76,6 +76,9 @@ pub fn fresh_place(terms: Terms) -> Place
     }
 }
 
+// The rank behind every part.
+pub const BEHIND_ALL: u32 = 3;
+
 // The order of the parts.
 pub fn rank(part: Part) -> u32
     ensures { λ r. ⌜ r ≡ rankOf part ⌝ }
@@ -88,13 +91,21 @@ pub fn rank(part: Part) -> u32
 }
 
 // The rank of the part that a session is open in; of a closed one, behind them all.
-pub fn present(standing: Standing) -> u32
+fn present(standing: Standing) -> u32
     ensures { λ r. ⌜ r ≡ presentOf standing ⌝ }
 {
     match standing {
-        Standing::Closed => 3,
+        Standing::Closed => BEHIND_ALL,
         Standing::Open(part) => rank(part),
     }
+}
+
+// Whether a session that stands so ends a part where it goes on to the part of rank next: one from the present part on, and before that.
+pub fn ends(part: Part, standing: Standing, next: u32) -> bool
+    ensures { λ r. ⌜ r ≡ endsOf part standing next ⌝ }
+{
+    let rank = rank(part);
+    (present(standing) <= rank) & (rank < next)
 }
 
 fn limit(part: Part) -> usize
@@ -118,8 +129,9 @@ fn count(p: Place, part: Part) -> usize
     }
 }
 
-fn within(p: Place) -> bool
-    ensures { λ r. ⌜ r ≡ withinOf p ⌝ }
+// Whether no count passes its limit.
+fn counts_within(p: Place) -> bool
+    ensures { λ r. ⌜ r ≡ countsWithin p ⌝ }
 {
     (p.note <= LONGEST_NOTE) & (p.body <= LONGEST_BODY) & (p.trailer <= LONGEST_TRAILER)
 }
@@ -135,13 +147,14 @@ fn unreached(p: Place, part: Part) -> bool
     }
 }
 
+// Whether a session is open with numbers that calls could have led to.
 fn sound(p: Place) -> bool
     ensures { λ r. ⌜ r ≡ soundOf p ⌝ }
 {
     let standing = p.standing;
     match standing {
         Standing::Closed => false,
-        Standing::Open(part) => terms_ok(p.terms) & within(p) & unreached(p, part),
+        Standing::Open(part) => terms_ok(p.terms) & counts_within(p) & unreached(p, part),
     }
 }
 
@@ -218,7 +231,7 @@ pub fn close_answer(p: Place, edition: Edition, wanted: usize, tag: usize) -> An
             edition,
             p.terms.edition,
             need(
-                within(p),
+                counts_within(p),
                 Answer::OverLimit,
                 need(tag == wanted, Answer::TagLength, Answer::Done),
             ),
@@ -228,18 +241,18 @@ pub fn close_answer(p: Place, edition: Edition, wanted: usize, tag: usize) -> An
 
 // The place once a piece of n bytes is taken; as it was where they would pass the limit.
 pub fn after(p: Place, part: Part, n: usize) -> Place
-    ensures { λ r. ⌜ r ≡ cond (leb (countOf p part + n) (limitOf part)) (moved p part n) p ⌝ }
+    ensures { λ r. ⌜ r ≡ cond (leb (countOf p part + n) (limitOf part)) (movedOf p part n) p ⌝ }
 {
     if fits(count(p, part), n, limit(part)) {
-        taken(p, part, n)
+        moved(p, part, n)
     } else {
         p
     }
 }
 
-fn taken(p: Place, part: Part, n: usize) -> Place
+fn moved(p: Place, part: Part, n: usize) -> Place
     requires { ⌜ countOf p part + n ≤ limitOf part ⌝ }
-    ensures { λ r. ⌜ r ≡ moved p part n ⌝ }
+    ensures { λ r. ⌜ r ≡ movedOf p part n ⌝ }
 {
     let standing = Standing::Open(part);
     let terms = p.terms;

@@ -16,7 +16,7 @@ pub struct Terms {
     pub edition: Edition,
 }
 
-// Whether a session may be begun for these terms.
+// Whether a sound session may have these terms: the rounds are 4 or 6.
 pub(crate) fn terms_ok(terms: Terms) -> bool
     ensures { λ r. ⌜ r ≡ termsOk terms ⌝ }
 {

@@ -73,7 +73,7 @@ pub(crate) fn look_at_pieces() {
     look(b"second half of 12", second, checksum(second));
 }
 
-// The pieces of the mixed job are taken, since each says that it is of revision 12, and the close refuses the job; whether it passes.
+// The pieces of the mixed job are accepted, since each says that it is of revision 12, and the close refuses the job; whether it passes.
 pub(crate) fn mixed(old_text: &[u8], old_tag: &[u8], text: &[u8], tag: &[u8]) -> bool {
     let old_first = first_half(old_text);
     let second = second_half(text);
@@ -85,7 +85,7 @@ pub(crate) fn mixed(old_text: &[u8], old_tag: &[u8], text: &[u8], tag: &[u8]) ->
     let s = piece(s, 12, Part::Trailer, 0, &TRAILER, b"the trailer");
     let with_new = close(s, 12, tag, b"the tag of 12");
     let new_answer = with_new.answer;
-    say(b"The same session closed with the other tag, and then one piece more:\n");
+    say(b"A copy of it from before the close, with the other tag, and one piece more:\n");
     let with_old = close(s, 12, old_tag, b"the tag of 11");
     let old_answer = with_old.answer;
     let closed = with_old.session;

@@ -40,28 +40,26 @@ pub(crate) fn say_part(part: Part) {
 
 // The number of an answer and what it means, at the end of a line.
 pub(crate) fn say_answer(answer: Answer) {
-    let n = number(answer);
     say(b" -> ");
-    say_number(n as u64);
+    say_number(number(answer) as u64);
     say(b", ");
-    say_meaning(n);
+    say_meaning(answer);
     say(b"\n");
 }
 
-fn say_meaning(n: u32) {
-    match n {
-        0 => say(b"done"),
-        1 => say(b"refused: the key or the nonce has another length"),
-        2 => say(b"refused: the rounds are not 4 or 6"),
-        3 => say(b"refused: the tag has another length"),
-        4 => say(b"refused: the part would be too long"),
-        5 => say(b"refused: the output has another length"),
-        6 => say(b"refused: not the session's revision"),
-        7 => say(b"refused: that part has ended"),
-        8 => say(b"refused: not the next offset"),
-        9 => say(b"refused: session closed or not sound"),
-        10 => say(b"refused: the tag differs"),
-        11 => say(b"refused: the width is not 32 or 64"),
-        _ => say(b"no answer has this number"),
+fn say_meaning(answer: Answer) {
+    match answer {
+        Answer::Done => say(b"done"),
+        Answer::KeyLength => say(b"refused: the key or the nonce has another length"),
+        Answer::RoundsNumber => say(b"refused: the rounds are not 4 or 6"),
+        Answer::TagLength => say(b"refused: the tag has another length"),
+        Answer::OverLimit => say(b"refused: the part would be too long"),
+        Answer::OutputLength => say(b"refused: the output has another length"),
+        Answer::OtherRevision => say(b"refused: not the session's revision"),
+        Answer::EarlierPart => say(b"refused: that part has ended"),
+        Answer::OtherOffset => say(b"refused: not the next offset"),
+        Answer::NotSound => say(b"refused: session closed or not sound"),
+        Answer::TagDiffers => say(b"refused: the tag differs"),
+        Answer::WidthNumber => say(b"refused: the width is not 32 or 64"),
     }
 }

@@ -1,4 +1,4 @@
-// The answers that the numbers of one call decide, in their order.
+// The answers that the numbers of one call decide, in their order. Every number but the rounds is a length in bytes.
 ghost use mathlib.Core.Path.{_≡_};
 ghost use Prim.Native.Nat.{_+_, _-_};
 ghost use lib.Dec.{eqb};
@@ -19,18 +19,18 @@ fn within(header: usize, body: usize, trailer: usize) -> bool
     (header <= LONGEST_HEADER) & (body <= LONGEST_BODY) & (trailer <= LONGEST_TRAILER)
 }
 
-// Whether a is b and c together, with no sum that could wrap.
-fn together(a: usize, b: usize, c: usize) -> bool
-    ensures { λ r. ⌜ r ≡ eqb a (b + c) ⌝ }
+// Whether a whole is its two parts together, with no sum that could wrap.
+fn is_sum(whole: usize, first: usize, second: usize) -> bool
+    ensures { λ r. ⌜ r ≡ eqb whole (first + second) ⌝ }
 {
-    if a < c {
+    if whole < second {
         return false;
     }
-    a - c == b
+    whole - second == first
 }
 
-// a less b; 0 where b is more.
-fn less(a: usize, b: usize) -> usize
+// a - b, and 0 where b is more.
+fn minus_or_zero(a: usize, b: usize) -> usize
     ensures { λ r. ⌜ r ≡ a - b ⌝ }
 {
     if a < b { 0 } else { a - b }
@@ -59,7 +59,7 @@ pub fn seal_checks(
             need(
                 within(header, body, trailer),
                 Answer::OverLimit,
-                need(together(out, body, tag), Answer::OutputLength, Answer::Done),
+                need(is_sum(out, body, tag), Answer::OutputLength, Answer::Done),
             ),
         ),
     )
@@ -79,7 +79,7 @@ pub fn open_checks(
 ) -> Answer
     ensures { λ r. ⌜ r ≡ openChecks row tag rounds key nonce header text trailer out ⌝ }
 {
-    let body = less(text, tag);
+    let body = minus_or_zero(text, tag);
     need(
         rounds_ok(rounds),
         Answer::RoundsNumber,

@@ -28,6 +28,9 @@ pub const TRAILER_MARK: u8 = 0x04;
 
 pub const TAG_MARK: u8 = 0x08;
 
+// Where P runs with no mark.
+pub const NO_MARK: u8 = 0x00;
+
 // Rounds are 4 or 6.
 pub fn rounds_ok(rounds: u32) -> bool
     ensures { λ r. ⌜ r ≡ roundsOk rounds ⌝ }

@@ -10,6 +10,7 @@ use Rattle.answers.specs.Answers.{doneOf}
 use Rattle.rules.specs.Rules.{tagBytes}
 use Rattle.rules.specs.Calls.{sealChecks, openChecks, answerOf, outOf}
 
+-- `text` is the body in sealing, and the sealed text in opening
 module _ (w : Width) (l : ℕ) (key nonce header text trailer out : List ℕ) where
   unfoldable pub sealAnswer : Answer
   sealAnswer = sealChecks (rowBytes w) (tagBytes w) l (length key) (length nonce) (length header) (length text) (length trailer) (length out)
@@ -18,6 +19,7 @@ module _ (w : Width) (l : ℕ) (key nonce header text trailer out : List ℕ) wh
   unfoldable pub sealOut : List ℕ
   sealOut = cond (doneOf sealAnswer) (sealed w l (tagBits w) key nonce header text trailer) out
 
+  -- what the numbers of an opening decide
   abbrev pub checked : Answer
   checked = openChecks (rowBytes w) (tagBytes w) l (length key) (length nonce) (length header) (length text) (length trailer) (length out)
 

@@ -22,6 +22,7 @@ abbrev pub outAt : Option Width → (Width → List ℕ) → List ℕ → List �
 outAt none f out = out
 outAt (some w) f out = f w
 
+-- `text` is the body in sealing, and the sealed text in opening
 module _ (width l : ℕ) (key nonce header text trailer out : List ℕ) where
   unfoldable pub sealAnswerAt : Answer
   sealAnswerAt = answerAt (widthOf width) (λ w. sealAnswer w l key nonce header text trailer out)

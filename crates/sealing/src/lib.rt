@@ -1,5 +1,6 @@
 // Sealing and opening in one call: at each width under the same names, and at a width that is given as a number.
 ghost use mathlib.Core.Path.{_≡_};
+ghost use Rattle.norx.specs.Lent.{was};
 ghost use Rattle.sealing.specs.Widths.{sealAnswerAt, sealOutAt, openAnswerAt, openOutAt};
 use answers::Answer;
 
@@ -17,8 +18,8 @@ pub fn seal(
     trailer: &[u8],
     out: &mut [u8],
 ) -> Answer
-    ensures answer { λ r. ⌜ r ≡ sealAnswerAt width rounds (now (key .entry)) (now (nonce .entry)) (now (header .entry)) (now (body .entry)) (now (trailer .entry)) (now (out .entry)) ⌝ }
-    ensures output { λ _. ⌜ now (out .exit) ≡ sealOutAt width rounds (now (key .entry)) (now (nonce .entry)) (now (header .entry)) (now (body .entry)) (now (trailer .entry)) (now (out .entry)) ⌝ }
+    ensures answer { λ r. ⌜ r ≡ sealAnswerAt width rounds (was key) (was nonce) (was header) (was body) (was trailer) (was out) ⌝ }
+    ensures output { λ _. ⌜ now (out .exit) ≡ sealOutAt width rounds (was key) (was nonce) (was header) (was body) (was trailer) (was out) ⌝ }
 {
     if width == 32 {
         return w32::seal(rounds, key, nonce, header, body, trailer, out);
@@ -40,8 +41,8 @@ pub fn open(
     trailer: &[u8],
     out: &mut [u8],
 ) -> Answer
-    ensures answer { λ r. ⌜ r ≡ openAnswerAt width rounds (now (key .entry)) (now (nonce .entry)) (now (header .entry)) (now (sealed .entry)) (now (trailer .entry)) (now (out .entry)) ⌝ }
-    ensures output { λ _. ⌜ now (out .exit) ≡ openOutAt width rounds (now (key .entry)) (now (nonce .entry)) (now (header .entry)) (now (sealed .entry)) (now (trailer .entry)) (now (out .entry)) ⌝ }
+    ensures answer { λ r. ⌜ r ≡ openAnswerAt width rounds (was key) (was nonce) (was header) (was sealed) (was trailer) (was out) ⌝ }
+    ensures output { λ _. ⌜ now (out .exit) ≡ openOutAt width rounds (was key) (was nonce) (was header) (was sealed) (was trailer) (was out) ⌝ }
 {
     if width == 32 {
         return w32::open(rounds, key, nonce, header, sealed, trailer, out);

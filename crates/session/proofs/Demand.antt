@@ -26,8 +26,8 @@ use Rattle.places.specs.declared.Place.{Place}
 use Rattle.places.specs.Places.{soundAt, soundOf, startAnswer, closeAnswer}
 use Rattle.places.proofs.Accepts.{startable, moved-sound, sound-closes}
 use Rattle.session.specs.Sessions.{Way, sealing, checking, verdictOf, Kind, closedOf, stateOf, tagLength, freshOf, startOf, tagAt, ownTag, closeAnswerOf, closeOf, closeTag}
-use Rattle.session.specs.Offered.{Piece, isTaken, afterPiece, afterAll, accepted, wroteAll, only, joined, lastPart, placeIn, headerOf, held, heldBy}
-use Rattle.session.specs.Promises.{AreBytes, Started, begun, took, SealsAsOne, ChecksAsOne, OneSession, Alike, OneSealing, OneOpening}
+use Rattle.session.specs.Offered.{Piece, isAccepted, afterPiece, afterAll, accepted, wroteAll, only, joined, lastPart, placeIn, headerOf, held, heldBy}
+use Rattle.session.specs.Promises.{AreBytes, Started, begun, acceptedPieces, SealsAsOne, ChecksAsOne, OneSession, Alike, OneSealing, OneOpening}
 use Rattle.session.proofs.Joining.{moved-place}
 use Rattle.session.proofs.Refused.{Lawful}
 use Rattle.session.proofs.Held.{place-held, state-held, accepted-held, all-kept, fresh-held, session-held}
@@ -50,10 +50,10 @@ bytes-joined K k [] s h = bytes-nil
 bytes-joined K k (q ∷ qs) s h =
     let rest : Bytes (joined k (accepted K (afterPiece K s q) qs)) = bytes-joined K k qs (afterPiece K s q) (h .1) in
     ⊎-elim
-    (λ (e : isTaken K s q ≡ true). rw (cond-true (isTaken K s q) (q ∷ accepted K (afterPiece K s q) qs) (accepted K (afterPiece K s q) qs) e)
+    (λ (e : isAccepted K s q ≡ true). rw (cond-true (isAccepted K s q) (q ∷ accepted K (afterPiece K s q) qs) (accepted K (afterPiece K s q) qs) e)
     (bytes-append (only k (q .label .part) (q .bytes)) (joined k (accepted K (afterPiece K s q) qs)) (bytes-only k (q .label .part) (q .bytes) (h .0)) rest))
-    (λ (e : isTaken K s q ≡ false). rw (cond-false (isTaken K s q) (q ∷ accepted K (afterPiece K s q) qs) (accepted K (afterPiece K s q) qs) e) rest)
-    (either (isTaken K s q))
+    (λ (e : isAccepted K s q ≡ false). rw (cond-false (isAccepted K s q) (q ∷ accepted K (afterPiece K s q) qs) (accepted K (afterPiece K s q) qs) e) rest)
+    (either (isAccepted K s q))
 
 abbrev part-of : Standing → Part
 part-of Closed = Note
@@ -76,10 +76,10 @@ module _ (K : Kind) (L : Lawful K) (key nonce : List ℕ) (T : Terms) where
     s₀ = begun K key nonce T
 
     abbrev accepted₀ : List Piece → List Piece
-    accepted₀ qs = took K key nonce T qs
+    accepted₀ qs = acceptedPieces K key nonce T qs
 
-    took-fresh : (qs : List Piece) → accepted₀ qs ≡ accepted K (held K key nonce T Note [] [] []) qs
-    took-fresh qs = ap (λ (s : K .Session). accepted K s qs) (started begins ∙ fresh-held K L key nonce T)
+    accepted-fresh : (qs : List Piece) → accepted₀ qs ≡ accepted K (held K key nonce T Note [] [] []) qs
+    accepted-fresh qs = ap (λ (s : K .Session). accepted K s qs) (started begins ∙ fresh-held K L key nonce T)
 
     -- the session held is the one of the accepted pieces joined part by part
     session-is : (qs : List Piece) → afterAll K s₀ qs ≡ heldBy K key nonce T (accepted₀ qs)
@@ -104,7 +104,7 @@ module _ (K : Kind) (L : Lawful K) (key nonce : List ℕ) (T : Terms) where
     abbrev Sound : Part → List ℕ → List ℕ → List ℕ → Type 0
     Sound part n b t = soundOf (placeIn T part n b t) ≡ true
 
-    sound-step : (part : Part) (n b t : List ℕ) (q : Piece) → isTaken K (held K key nonce T part n b t) q ≡ true → Sound part n b t
+    sound-step : (part : Part) (n b t : List ℕ) (q : Piece) → isAccepted K (held K key nonce T part n b t) q ≡ true → Sound part n b t
         → Sound (q .label .part) (n ++ only Note (q .label .part) (q .bytes)) (b ++ only Body (q .label .part) (q .bytes)) (t ++ only Trailer (q .label .part) (q .bytes))
     unfolding soundOf
     sound-step part n b t q h e =
@@ -118,7 +118,7 @@ module _ (K : Kind) (L : Lawful K) (key nonce : List ℕ) (T : Terms) where
     fresh-sound = rw (startable (rowBytes (K .width)) T (length key) (length nonce) (sym (ap doneOf answer-start) ∙ begins) .0)
 
     stays-sound : (qs : List Piece) → soundOf (place qs) ≡ true
-    stays-sound qs = rw (took-fresh qs) (all-kept K L key nonce T Sound sound-step qs Note [] [] [] fresh-sound)
+    stays-sound qs = rw (accepted-fresh qs) (all-kept K L key nonce T Sound sound-step qs Note [] [] [] fresh-sound)
 
     -- ---- its close under its own edition, with a tag of the right length
 
@@ -168,7 +168,7 @@ module _ (K : Kind) (L : Lawful K) (key nonce : List ℕ) (T : Terms) where
         one-ciphertext =
             ap (λ (s : K .Session). wroteAll K s qs) (started begins ∙ fresh-held K L key nonce T)
             ∙ all-wrote K seals key nonce T L qs Note [] [] []
-            ∙ ap (λ (as′ : List Piece). cipher K seals key nonce T (joined Note as′) (joined Body as′)) (sym (took-fresh qs))
+            ∙ ap (λ (as′ : List Piece). cipher K seals key nonce T (joined Note as′) (joined Body as′)) (sym (accepted-fresh qs))
             ∙ text-whole K key nonce T n b t (bytes-of Note) (bytes-of Body) (bytes-of Trailer)
 
         one-tag : (given : List ℕ) → length given ≡ tagLength K → closeTag K (afterAll K s₀ qs) (T .edition) given ≡ tagAsOne K key nonce T n b t

@@ -18,8 +18,8 @@ use Rattle.places.specs.Terms.{frontOf}
 use Rattle.places.specs.Places.{freshPlace, pieceAnswer, moved, Accepted}
 use Rattle.places.proofs.Accepts.{accepted as accepts}
 use Rattle.session.specs.Sessions.{rowsOf, flatOf, takenAt, exactOf, Kind, stateOf, freshOf, pieceAnswerOf, takenOf, pieceOf}
-use Rattle.session.specs.Offered.{Piece, isTaken, afterPiece, afterAll, accepted, only, joined, lastPart, placeIn, begunState, stateIn, held, heldBy}
-use Rattle.session.proofs.Refused.{Lawful, answerTo, taken-answer, refused-session}
+use Rattle.session.specs.Offered.{Piece, isAccepted, afterPiece, afterAll, accepted, only, joined, lastPart, placeIn, startState, stateIn, held, heldBy}
+use Rattle.session.proofs.Refused.{Lawful, answerTo, accepted-answer, refused-session}
 use Rattle.session.proofs.Flat.{rows-flat, shaped-state}
 use Rattle.session.proofs.Joining.{moved-place, moved-state}
 
@@ -42,10 +42,10 @@ module _ (K : Kind) (L : Lawful K) where
         ap (λ (p : Place). pieceAnswer p (q .label) (length (q .bytes)) (exactOf (K .way) (q .label .part) (length (q .bytes)) (length (q .out))))
         (place-held part n b t)
 
-    pub accepted-held : (part : Part) (n b t : List ℕ) (q : Piece) → isTaken K (at part n b t) q ≡ true
+    pub accepted-held : (part : Part) (n b t : List ℕ) (q : Piece) → isAccepted K (at part n b t) q ≡ true
         → Accepted (placeIn T part n b t) (q .label .part) (length (q .bytes)) (exactOf (K .way) (q .label .part) (length (q .bytes)) (length (q .out)))
     accepted-held part n b t q h =
-        accepts _ (q .label) _ _ (sym (ap doneOf (answer-held part n b t q)) ∙ sym (taken-answer K L (at part n b t) q) ∙ h)
+        accepts _ (q .label) _ _ (sym (ap doneOf (answer-held part n b t q)) ∙ sym (accepted-answer K L (at part n b t) q) ∙ h)
 
     -- ---- one accepted piece
 
@@ -53,7 +53,7 @@ module _ (K : Kind) (L : Lawful K) where
     andPiece part n b t q =
         at (q .label .part) (n ++ only Note (q .label .part) (q .bytes)) (b ++ only Body (q .label .part) (q .bytes)) (t ++ only Trailer (q .label .part) (q .bytes))
 
-    taken-held : (part : Part) (n b t : List ℕ) (q : Piece) → isTaken K (at part n b t) q ≡ true → takenOf K (at part n b t) (q .label .part) (q .bytes) ≡ andPiece part n b t q
+    taken-held : (part : Part) (n b t : List ℕ) (q : Piece) → isAccepted K (at part n b t) q ≡ true → takenOf K (at part n b t) (q .label .part) (q .bytes) ≡ andPiece part n b t q
     unfolding takenOf
     taken-held part n b t q h =
         let a = accepted-held part n b t q h in
@@ -66,10 +66,10 @@ module _ (K : Kind) (L : Lawful K) where
         ∙ ap₂ (λ (y : Place) (s : State). K .make y (flatOf s) (rowOf (K .width) key))
         (moved-place T part n b t k x) (moved-state K key nonce T part n b t k x (a .sound) (a .onward))
 
-    pub one-taken : (part : Part) (n b t : List ℕ) (q : Piece) → isTaken K (at part n b t) q ≡ true → afterPiece K (at part n b t) q ≡ andPiece part n b t q
+    pub one-accepted : (part : Part) (n b t : List ℕ) (q : Piece) → isAccepted K (at part n b t) q ≡ true → afterPiece K (at part n b t) q ≡ andPiece part n b t q
     unfolding pieceOf
-    one-taken part n b t q h =
-        L .stepped _ _ ∙ cond-true _ _ _ (sym (taken-answer K L (at part n b t) q) ∙ h) ∙ taken-held part n b t q h
+    one-accepted part n b t q h =
+        L .stepped _ _ ∙ cond-true _ _ _ (sym (accepted-answer K L (at part n b t) q) ∙ h) ∙ taken-held part n b t q h
 
     -- ---- any list of pieces
 
@@ -85,33 +85,33 @@ module _ (K : Kind) (L : Lawful K) where
         rw (append-assoc n (only Note (q .label .part) (q .bytes)) (joined Note qs), append-assoc b (only Body (q .label .part) (q .bytes)) (joined Body qs), append-assoc t (only Trailer (q .label .part) (q .bytes)) (joined Trailer qs))
 
     -- the accepted pieces of a list, by whether its first is accepted
-    pub taken-list : (part : Part) (n b t : List ℕ) (q : Piece) (qs : List Piece) → isTaken K (at part n b t) q ≡ true
+    pub accepted-list : (part : Part) (n b t : List ℕ) (q : Piece) (qs : List Piece) → isAccepted K (at part n b t) q ≡ true
         → q ∷ accepted K (andPiece part n b t q) qs ≡ accepted K (at part n b t) (q ∷ qs)
-    taken-list part n b t q qs h =
-        ap (λ (u : K .Session). q ∷ accepted K u qs) (sym (one-taken part n b t q h)) ∙ sym (cond-true (isTaken K (at part n b t) q) _ _ h)
+    accepted-list part n b t q qs h =
+        ap (λ (u : K .Session). q ∷ accepted K u qs) (sym (one-accepted part n b t q h)) ∙ sym (cond-true (isAccepted K (at part n b t) q) _ _ h)
 
-    pub refused-list : (part : Part) (n b t : List ℕ) (q : Piece) (qs : List Piece) → isTaken K (at part n b t) q ≡ false
+    pub refused-list : (part : Part) (n b t : List ℕ) (q : Piece) (qs : List Piece) → isAccepted K (at part n b t) q ≡ false
         → accepted K (at part n b t) qs ≡ accepted K (at part n b t) (q ∷ qs)
     refused-list part n b t q qs h =
-        ap (λ (u : K .Session). accepted K u qs) (sym (refused-session K L (at part n b t) q h)) ∙ sym (cond-false (isTaken K (at part n b t) q) _ _ h)
+        ap (λ (u : K .Session). accepted K u qs) (sym (refused-session K L (at part n b t) q h)) ∙ sym (cond-false (isAccepted K (at part n b t) q) _ _ h)
 
     pub all-held : (qs : List Piece) (part : Part) (n b t : List ℕ) → afterAll K (at part n b t) qs ≡ andAll part n b t (accepted K (at part n b t) qs)
     all-held [] part n b t = and-none part n b t
     all-held (q ∷ qs) part n b t =
         let s : K .Session = at part n b t in
         ⊎-elim
-        (λ (h : isTaken K s q ≡ true). ap (λ (u : K .Session). afterAll K u qs) (one-taken part n b t q h)
+        (λ (h : isAccepted K s q ≡ true). ap (λ (u : K .Session). afterAll K u qs) (one-accepted part n b t q h)
         ∙ all-held qs (q .label .part) (n ++ only Note (q .label .part) (q .bytes)) (b ++ only Body (q .label .part) (q .bytes)) (t ++ only Trailer (q .label .part) (q .bytes))
         ∙ and-one part n b t q (accepted K (andPiece part n b t q) qs)
-        ∙ ap (andAll part n b t) (taken-list part n b t q qs h))
-        (λ (h : isTaken K s q ≡ false). ap (λ (u : K .Session). afterAll K u qs) (refused-session K L s q h)
+        ∙ ap (andAll part n b t) (accepted-list part n b t q qs h))
+        (λ (h : isAccepted K s q ≡ false). ap (λ (u : K .Session). afterAll K u qs) (refused-session K L s q h)
         ∙ all-held qs part n b t
         ∙ ap (andAll part n b t) (refused-list part n b t q qs h))
-        (either (isTaken K s q))
+        (either (isAccepted K s q))
 
     -- what holds of the joined parts at first, and after each accepted piece where before it, holds at the end
     pub all-kept : (P : Part → List ℕ → List ℕ → List ℕ → Type 0)
-        → ((part : Part) (n b t : List ℕ) (q : Piece) → isTaken K (at part n b t) q ≡ true → P part n b t
+        → ((part : Part) (n b t : List ℕ) (q : Piece) → isAccepted K (at part n b t) q ≡ true → P part n b t
         → P (q .label .part) (n ++ only Note (q .label .part) (q .bytes)) (b ++ only Body (q .label .part) (q .bytes)) (t ++ only Trailer (q .label .part) (q .bytes)))
         → (qs : List Piece) (part : Part) (n b t : List ℕ) → P part n b t
         → P (lastPart part (accepted K (at part n b t) qs)) (n ++ joined Note (accepted K (at part n b t) qs)) (b ++ joined Body (accepted K (at part n b t) qs)) (t ++ joined Trailer (accepted K (at part n b t) qs))
@@ -120,16 +120,16 @@ module _ (K : Kind) (L : Lawful K) where
         let s : K .Session = at part n b t in
         let rest : List Piece = accepted K (andPiece part n b t q) qs in
         ⊎-elim
-        (λ (y : isTaken K s q ≡ true).
-        rw (← taken-list part n b t q qs y, ← append-assoc n (only Note (q .label .part) (q .bytes)) (joined Note rest), ← append-assoc b (only Body (q .label .part) (q .bytes)) (joined Body rest), ← append-assoc t (only Trailer (q .label .part) (q .bytes)) (joined Trailer rest))
+        (λ (y : isAccepted K s q ≡ true).
+        rw (← accepted-list part n b t q qs y, ← append-assoc n (only Note (q .label .part) (q .bytes)) (joined Note rest), ← append-assoc b (only Body (q .label .part) (q .bytes)) (joined Body rest), ← append-assoc t (only Trailer (q .label .part) (q .bytes)) (joined Trailer rest))
         (all-kept P step qs (q .label .part) (n ++ only Note (q .label .part) (q .bytes)) (b ++ only Body (q .label .part) (q .bytes)) (t ++ only Trailer (q .label .part) (q .bytes)) (step part n b t q y h)))
-        (λ (y : isTaken K s q ≡ false). rw (← refused-list part n b t q qs y) (all-kept P step qs part n b t h))
-        (either (isTaken K s q))
+        (λ (y : isAccepted K s q ≡ false). rw (← refused-list part n b t q qs y) (all-kept P step qs part n b t h))
+        (either (isAccepted K s q))
 
     pub fresh-held : freshOf K key nonce T ≡ at Note [] [] []
     unfolding freshOf
     fresh-held =
-        ap (λ (x : List ℕ). K .make (freshPlace T) (flatOf (fed (K .width) (T .rounds) headerMark (begunState K key nonce T) 0 x)) (rowOf (K .width) key))
+        ap (λ (x : List ℕ). K .make (freshPlace T) (flatOf (fed (K .width) (T .rounds) headerMark (startState K key nonce T) 0 x)) (rowOf (K .width) key))
         (sym (append-nil (frontOf (T .edition))))
 
     -- from a start: the session of the accepted pieces joined part by part

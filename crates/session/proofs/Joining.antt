@@ -15,16 +15,16 @@ use Rattle.norx.specs.Stream.{fed, ended, fedText, unfed}
 use Rattle.norx.proofs.Stream.{fed-append}
 use Rattle.norx.proofs.Text.{text-append}
 use Rattle.norx.proofs.Unseal.{unfed-append}
-use Rattle.norx.proofs.Checked.{length-unfed}
+use Rattle.norx.proofs.Unfed.{length-unfed}
 use Rattle.answers.proofs.Chain.{both}
 use Rattle.places.specs.declared.terms.Terms.{Terms}
 use Rattle.places.specs.declared.Part.{Part}
 use Rattle.places.specs.declared.Part.the-variants.{Note, Body, Trailer}
 use Rattle.places.specs.Terms.{termsOk, frontOf}
-use Rattle.places.specs.Places.{rankOf, moved, withinOf, unreachedOf, soundOf}
+use Rattle.places.specs.Places.{rankOf, moved, countsWithin, unreachedOf, soundOf}
 use Rattle.places.proofs.Editions.{front-long}
 use Rattle.session.specs.Sessions.{Way, sealing, checking, taken, endIf, readied, takenAt, Kind}
-use Rattle.session.specs.Offered.{only, placeIn, headerOf, begunState, inNote, afterNote, inBody, afterBody, stateIn}
+use Rattle.session.specs.Offered.{only, placeIn, headerOf, startState, inNote, afterNote, inBody, afterBody, stateIn}
 
 pub header-long : (T : Terms) (note : List ℕ) → length (headerOf T note) ≡ frontBytes + length note
 header-long T note = length-append (frontOf (T .edition)) note ∙ ap (λ (k : ℕ). k + length note) (front-long (T .edition))
@@ -32,7 +32,7 @@ header-long T note = length-append (frontOf (T .edition)) note ∙ ap (λ (k : �
 -- what a sound place says of the parts not yet reached
 pub unreached : (T : Terms) (part : Part) (n b t : List ℕ) → soundOf (placeIn T part n b t) ≡ true → unreachedOf (placeIn T part n b t) part ≡ true
 unfolding soundOf
-unreached T part n b t e = both (termsOk T && withinOf (placeIn T part n b t)) (unreachedOf (placeIn T part n b t) part) e .1
+unreached T part n b t e = both (termsOk T && countsWithin (placeIn T part n b t)) (unreachedOf (placeIn T part n b t) part) e .1
 
 pub some-bytes : (y : ℕ) (b : List ℕ) → eqb (length (y ∷ b)) 0 ≡ true → ⊥
 some-bytes y b e = let z : length (y ∷ b) ≡ 0 = eqb-true (length (y ∷ b)) 0 e in omega arith
@@ -94,8 +94,8 @@ module _ (K : Kind) (key nonce : List ℕ) (T : Terms) where
   note-note : (n x : List ℕ) → went Note n [] [] Note x ≡ S Note (n ++ x) [] []
   unfolding takenAt readied endIf taken
   note-note n x =
-      fed-more w l headerMark (begunState K key nonce T) (headerOf T n) x (frontBytes + length n) (sym (header-long T n))
-      ∙ ap (fed w l headerMark (begunState K key nonce T) 0) (append-assoc (frontOf (T .edition)) n x)
+      fed-more w l headerMark (startState K key nonce T) (headerOf T n) x (frontBytes + length n) (sym (header-long T n))
+      ∙ ap (fed w l headerMark (startState K key nonce T) 0) (append-assoc (frontOf (T .edition)) n x)
 
   pub ended-note : (n : List ℕ) → ended w l headerMark (inNote K key nonce T n) (frontBytes + length n) ≡ afterNote K key nonce T n
   ended-note n = ap (ended w l headerMark (inNote K key nonce T n)) (sym (header-long T n))

@@ -1,15 +1,14 @@
 -- What the calls on a session's state ensure, put together over the width.
 -- Assumes nothing.
 use mathlib.Core.Path.{_≡_, sym, ap, ap₂, _∙_}
-use mathlib.Core.Bool.{Bool, true, _&&_, cond}
+use mathlib.Core.Bool.{Bool, true, cond}
 use mathlib.Core.List.{List, _++_}
 use Prim.Native.Nat.{ℕ, _+_, _≤_}
 use native.Mathlib.Omega.{arith}
-use lib.Dec.{ltb, leb, eqb}
+use lib.Dec.{eqb}
 use lib.ListN.{length, take, drop, replicate}
 use lib.Seq.{length-take-le}
 use Rattle.norx.specs.Norx.{Width, rowBytes, tagBits, State, rowAt, rowOf, bytesOfRow, headerMark, bodyMark, trailerMark, start, finished, tagOf}
-use Rattle.norx.specs.Front.{frontBytes}
 use Rattle.norx.specs.Stream.{fed, fedText}
 use Rattle.norx.proofs.Words.{length-bytesOfRow}
 use Rattle.norx.proofs.Slices.{copied}
@@ -18,10 +17,10 @@ use Rattle.rules.specs.Rules.{tagBytes}
 use Rattle.rules.proofs.Lengths.{tag-fits}
 use Rattle.places.specs.declared.terms.Terms.{Terms}
 use Rattle.places.specs.declared.Part.{Part}
-use Rattle.places.specs.declared.Part.the-variants.{Body}
+use Rattle.places.specs.declared.Part.the-variants.{Note, Body, Trailer}
 use Rattle.places.specs.declared.Place.{Place}
 use Rattle.places.specs.Terms.{frontOf}
-use Rattle.places.specs.Places.{rankOf, markOf, presentOf, fedOf, sealExact}
+use Rattle.places.specs.Places.{rankOf, markOf, endsOf, fedOf, sealExact}
 use Rattle.session.specs.Sessions.{Way, sealing, freshState, brought, taken, endIf, readied, takenAt, writtenAt}
 
 -- the words of a key or of a nonce that has the length of one
@@ -34,15 +33,15 @@ pub fresh-of : (w : Width) (t : ℕ) (T : Terms) (key nonce : List ℕ) {b n : L
 fresh-of w t T key nonce h eb en es eu =
     eu ∙ ap₂ (λ (x : State) (y : List ℕ). fed w (T .rounds) headerMark x 0 y) (es ∙ ap (start w (T .rounds) t key) (row-of w nonce h en)) eb
 
-pub readied-of : (w : Width) (p : Place) (next : ℕ) (s : State) {f : ℕ} {a b c : State} → f ≡ presentOf (p .standing)
-    → a ≡ endIf w (p .terms .rounds) headerMark (leb f 0 && ltb 0 next) s (frontBytes + p .note)
-    → b ≡ endIf w (p .terms .rounds) bodyMark (leb f 1 && ltb 1 next) a (p .body) → c ≡ endIf w (p .terms .rounds) trailerMark (leb f 2 && ltb 2 next) b (p .trailer)
+pub readied-of : (w : Width) (p : Place) (next : ℕ) (s : State) {ends-note ends-body ends-trailer : Bool} {a b c : State}
+    → ends-note ≡ endsOf Note (p .standing) next → a ≡ endIf w (p .terms .rounds) headerMark ends-note s (fedOf p Note)
+    → ends-body ≡ endsOf Body (p .standing) next → b ≡ endIf w (p .terms .rounds) bodyMark ends-body a (fedOf p Body)
+    → ends-trailer ≡ endsOf Trailer (p .standing) next → c ≡ endIf w (p .terms .rounds) trailerMark ends-trailer b (fedOf p Trailer)
     → c ≡ readied w p next s
 unfolding readied
-readied-of w p next s {f} ef ea eb ec =
+readied-of w p next s en ea eb′ eb et ec =
     let l : ℕ = p .terms .rounds in
-    ec ∙ ap (λ (x : State). endIf w l trailerMark (leb f 2 && ltb 2 next) x (p .trailer)) (eb ∙ ap (λ (x : State). endIf w l bodyMark (leb f 1 && ltb 1 next) x (p .body)) ea)
-    ∙ ap (λ (g : ℕ). endIf w l trailerMark (leb g 2 && ltb 2 next) (endIf w l bodyMark (leb g 1 && ltb 1 next) (endIf w l headerMark (leb g 0 && ltb 0 next) s (frontBytes + p .note)) (p .body)) (p .trailer)) ef
+    ec ∙ (λ i. endIf w l trailerMark (et i) ((eb ∙ (λ j. endIf w l bodyMark (eb′ j) ((ea ∙ ap (λ (due : Bool). endIf w l headerMark due s (fedOf p Note)) en) j) (fedOf p Body))) i) (fedOf p Trailer))
 
 -- a piece of the part k taken in, once the parts before it are ended
 module _ (w : Width) (p : Place) (part k : Part) (x : List ℕ) (s : State) {rank : ℕ} {ready : State} (e : part ≡ k) (er : rank ≡ rankOf part)
@@ -50,10 +49,10 @@ module _ (w : Width) (p : Place) (part k : Part) (x : List ℕ) (s : State) {ran
   ready-is : ready ≡ readied w p (rankOf k) s
   ready-is = es ∙ ap (λ (i : ℕ). readied w p i s) (er ∙ ap rankOf e)
 
-  pub took : (way : Way) {v : State} → v ≡ fed w (p .terms .rounds) (markOf k) ready (fedOf p k) (brought w (p .terms .rounds) k way ready (fedOf p k) x)
+  pub taken-at-of : (way : Way) {v : State} → v ≡ fed w (p .terms .rounds) (markOf k) ready (fedOf p k) (brought w (p .terms .rounds) k way ready (fedOf p k) x)
       → v ≡ takenAt w p way part x s
   unfolding takenAt taken
-  took way ev =
+  taken-at-of way ev =
       ev ∙ ap (λ (u : State). fed w (p .terms .rounds) (markOf k) u (fedOf p k) (brought w (p .terms .rounds) k way u (fedOf p k) x)) ready-is
       ∙ ap (λ (j : Part). takenAt w p way j x s) (sym e)
 
@@ -63,9 +62,9 @@ module _ (w : Width) (p : Place) (part : Part) (x out : List ℕ) (s : State) {r
   long : eqb (length out) (length x) ≡ true
   long = sym (ap (λ (k : Part). sealExact k (length x) (length out)) e) ∙ fits
 
-  pub sealed-took : {v : State} → v ≡ cond (eqb (length out) (length x)) (fed w (p .terms .rounds) bodyMark ready (p .body) x) ready → v ≡ takenAt w p sealing part x s
-  sealed-took ev =
-      took w p part Body x s e er es sealing (ev ∙ ap (λ (b : Bool). cond b (fed w (p .terms .rounds) bodyMark ready (p .body) x) ready) long)
+  pub sealed-taken-at : {v : State} → v ≡ cond (eqb (length out) (length x)) (fed w (p .terms .rounds) bodyMark ready (p .body) x) ready → v ≡ takenAt w p sealing part x s
+  sealed-taken-at ev =
+      taken-at-of w p part Body x s e er es sealing (ev ∙ ap (λ (b : Bool). cond b (fed w (p .terms .rounds) bodyMark ready (p .body) x) ready) long)
 
   pub sealed-wrote : {v : List ℕ} → v ≡ cond (eqb (length out) (length x)) (fedText w (p .terms .rounds) ready (p .body) x) out → v ≡ writtenAt w p sealing part x s out
   sealed-wrote ev =

@@ -14,7 +14,7 @@ use Rattle.places.specs.declared.terms.Edition.{Edition}
 use Rattle.places.specs.declared.Place.{Place}
 use Rattle.places.specs.Places.{soundOf, pieceAnswer, closeAnswer}
 use Rattle.session.specs.Sessions.{exactOf, Kind, closedOf, tagLength, pieceAnswerOf, pieceOf, pieceOut, closeAnswerOf, closeOf, closeTag}
-use Rattle.session.specs.Offered.{Piece, callOf, isTaken, afterPiece, afterAll, accepted, wrote, wroteAll}
+use Rattle.session.specs.Offered.{Piece, callOf, isAccepted, afterPiece, afterAll, accepted, wrote, wroteAll}
 use Rattle.session.specs.Promises.{RefusedNothing, WithoutRefused}
 
 -- a kind is lawful where what it puts together it takes apart again
@@ -33,40 +33,40 @@ module _ (K : Kind) (L : Lawful K) where
   unfolding pieceOf
   answer-is s q = L .answered _ _
 
-  pub taken-answer : (s : K .Session) (q : Piece) → isTaken K s q ≡ doneOf (answerTo s q)
-  taken-answer s q = ap doneOf (answer-is s q)
+  pub accepted-answer : (s : K .Session) (q : Piece) → isAccepted K s q ≡ doneOf (answerTo s q)
+  accepted-answer s q = ap doneOf (answer-is s q)
 
   -- ---- a refused piece
 
-  pub refused-session : (s : K .Session) (q : Piece) → isTaken K s q ≡ false → afterPiece K s q ≡ s
+  pub refused-session : (s : K .Session) (q : Piece) → isAccepted K s q ≡ false → afterPiece K s q ≡ s
   unfolding pieceOf
-  refused-session s q h = L .stepped _ _ ∙ cond-false _ _ _ (sym (taken-answer s q) ∙ h)
+  refused-session s q h = L .stepped _ _ ∙ cond-false _ _ _ (sym (accepted-answer s q) ∙ h)
 
   pub refused-nothing : RefusedNothing K
   unfolding pieceOut
-  refused-nothing s q h = (refused-session s q h, cond-false _ _ _ (sym (taken-answer s q) ∙ h))
+  refused-nothing s q h = (refused-session s q h, cond-false _ _ _ (sym (accepted-answer s q) ∙ h))
 
   session-without : (qs : List Piece) (s : K .Session) → afterAll K s qs ≡ afterAll K s (accepted K s qs)
   session-without [] s = refl
   session-without (q ∷ qs) s =
       ⊎-elim
-      (λ (h : isTaken K s q ≡ true). session-without qs (afterPiece K s q) ∙ sym (ap (afterAll K s) (cond-true (isTaken K s q) _ _ h)))
-      (λ (h : isTaken K s q ≡ false). session-without qs (afterPiece K s q)
+      (λ (h : isAccepted K s q ≡ true). session-without qs (afterPiece K s q) ∙ sym (ap (afterAll K s) (cond-true (isAccepted K s q) _ _ h)))
+      (λ (h : isAccepted K s q ≡ false). session-without qs (afterPiece K s q)
       ∙ ap (λ (u : K .Session). afterAll K u (accepted K (afterPiece K s q) qs)) (refused-session s q h)
-      ∙ sym (ap (afterAll K s) (cond-false (isTaken K s q) _ _ h)))
-      (either (isTaken K s q))
+      ∙ sym (ap (afterAll K s) (cond-false (isAccepted K s q) _ _ h)))
+      (either (isAccepted K s q))
 
   wrote-without : (qs : List Piece) (s : K .Session) → wroteAll K s qs ≡ wroteAll K s (accepted K s qs)
   wrote-without [] s = refl
   wrote-without (q ∷ qs) s =
       let rest : List Piece = accepted K (afterPiece K s q) qs in
       ⊎-elim
-      (λ (h : isTaken K s q ≡ true). ap (λ (x : List ℕ). wrote K s q ++ x) (wrote-without qs (afterPiece K s q))
-      ∙ sym (ap (wroteAll K s) (cond-true (isTaken K s q) (q ∷ rest) rest h)))
-      (λ (h : isTaken K s q ≡ false). ap₂ (λ (x y : List ℕ). x ++ y) (cond-false (isTaken K s q) _ [] h) (wrote-without qs (afterPiece K s q))
+      (λ (h : isAccepted K s q ≡ true). ap (λ (x : List ℕ). wrote K s q ++ x) (wrote-without qs (afterPiece K s q))
+      ∙ sym (ap (wroteAll K s) (cond-true (isAccepted K s q) (q ∷ rest) rest h)))
+      (λ (h : isAccepted K s q ≡ false). ap₂ (λ (x y : List ℕ). x ++ y) (cond-false (isAccepted K s q) _ [] h) (wrote-without qs (afterPiece K s q))
       ∙ ap (λ (u : K .Session). wroteAll K u rest) (refused-session s q h)
-      ∙ sym (ap (wroteAll K s) (cond-false (isTaken K s q) (q ∷ rest) rest h)))
-      (either (isTaken K s q))
+      ∙ sym (ap (wroteAll K s) (cond-false (isAccepted K s q) (q ∷ rest) rest h)))
+      (either (isAccepted K s q))
 
   pub without-refused : WithoutRefused K
   without-refused s qs = (session-without qs s, wrote-without qs s)

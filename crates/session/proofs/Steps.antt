@@ -56,83 +56,116 @@ module _ (K : Kind) where
   pub closed-made : (p : Place) (s : State) (t : K .Session) → p ≡ closedPlace → s ≡ rowsOf (replicate 16 0) → t ≡ K .make p (flatOf s) (replicate 4 0) → t ≡ closedOf K
   closed-made p s t ep es et = et ∙ ap₂ (λ (q : Place) (u : State). K .make q (flatOf u) (replicate 4 0)) ep es
 
-  -- ---- piece: p, e, a and f are what the place, the test of the output, the answer and the test of it came to
+-- ---- piece
 
-  module _ (s : K .Session) (label : Label) (x out : List ℕ) (p : Place) (e : Bool) (a : Answer) (f : Bool)
-      (ep : p ≡ K .place s) (ee : e ≡ exactOf (K .way) (label .part) (length x) (length out)) (ea : a ≡ pieceAnswer p label (length x) e) (ef : f ≡ doneOf a) where
-    answered : a ≡ pieceAnswerOf K s label x out
-    unfolding pieceAnswerOf
-    answered = ea ∙ ap₂ (λ (q : Place) (b : Bool). pieceAnswer q label (length x) b) ep ee
+-- what a piece came to before its answer was looked at: the session's place, the test of the output, the answer, and the test of it
+pub record PieceFound (K : Kind) (s : K .Session) (label : Label) (x out : List ℕ) : Type 0 where
+  pub place : Place
+  pub exact : Bool
+  pub answer : Answer
+  pub done : Bool
+  pub place-is : place ≡ K .place s
+  pub exact-is : exact ≡ exactOf (K .way) (label .part) (length x) (length out)
+  pub answer-is : answer ≡ pieceAnswer place label (length x) exact
+  pub done-is : done ≡ doneOf answer
 
-    pub piece-accepted : f ≡ true → Accepted p (label .part) (length x) (exactOf (K .way) (label .part) (length x) (length out))
-    piece-accepted h = rw (← ee) (accepted p label (length x) e (sym (ap doneOf ea) ∙ sym ef ∙ h))
+-- what was made of a piece that is accepted: the rows of the session's words, the state that took the piece in, the place after it, and the session of both
+pub record PieceMade (K : Kind) (s : K .Session) (label : Label) (x : List ℕ) (p : Place) : Type 0 where
+  pub rows : State
+  pub state : State
+  pub place : Place
+  pub session : K .Session
+  pub rows-is : rows ≡ rowsOf (K .words s)
+  pub state-is : state ≡ takenAt (K .width) p (K .way) (label .part) x rows
+  pub place-is : place ≡ cond (leb (countOf p (label .part) + length x) (limitOf (label .part))) (moved p (label .part) (length x)) p
+  pub session-is : session ≡ K .make place (flatOf state) (K .key s)
 
-    -- the session that was put together is the one that took the piece in
-    made-taken : (h : f ≡ true) (q : Place) (u v : State) (t : K .Session) → u ≡ rowsOf (K .words s) → v ≡ takenAt (K .width) p (K .way) (label .part) x u
-        → q ≡ cond (leb (countOf p (label .part) + length x) (limitOf (label .part))) (moved p (label .part) (length x)) p → t ≡ K .make q (flatOf v) (K .key s) → t ≡ takenOf K s (label .part) x
-    unfolding takenOf
-    made-taken h q u v t eu ev eq et =
-        let room : leb (countOf p (label .part) + length x) (limitOf (label .part)) ≡ true = le-leb _ _ (piece-accepted h .room) in
-        let next : q ≡ moved p (label .part) (length x) = eq ∙ ap (λ (b : Bool). cond b (moved p (label .part) (length x)) p) room in
-        let state : v ≡ takenAt (K .width) p (K .way) (label .part) x (rowsOf (K .words s)) = ev ∙ ap (takenAt (K .width) p (K .way) (label .part) x) eu in
-        et ∙ ap₂ (λ (y : Place) (z : State). K .make y (flatOf z) (K .key s)) next state
-        ∙ ap (λ (y : Place). K .make (moved y (label .part) (length x)) (flatOf (takenAt (K .width) y (K .way) (label .part) x (rowsOf (K .words s)))) (K .key s)) ep
+module _ (K : Kind) (s : K .Session) (label : Label) (x out : List ℕ) (found : PieceFound K s label x out) where
+  answered : found .answer ≡ pieceAnswerOf K s label x out
+  unfolding pieceAnswerOf
+  answered = found .answer-is ∙ ap₂ (λ (q : Place) (b : Bool). pieceAnswer q label (length x) b) (found .place-is) (found .exact-is)
 
-    pub piece-taken : (h : f ≡ true) (q : Place) (u v : State) (t : K .Session) → u ≡ rowsOf (K .words s) → v ≡ takenAt (K .width) p (K .way) (label .part) x u
-        → q ≡ cond (leb (countOf p (label .part) + length x) (limitOf (label .part))) (moved p (label .part) (length x)) p → t ≡ K .make q (flatOf v) (K .key s)
-        → K .step a t ≡ pieceOf K s label x out
-    unfolding pieceOf
-    piece-taken h q u v t eu ev eq et = step-of _ _ _ _ answered (where-done a _ f answered ef t _ s h (made-taken h q u v t eu ev eq et))
+  pub piece-accepted : found .done ≡ true → Accepted (found .place) (label .part) (length x) (exactOf (K .way) (label .part) (length x) (length out))
+  piece-accepted h = rw (← found .exact-is) (accepted (found .place) label (length x) (found .exact) (sym (ap doneOf (found .answer-is)) ∙ sym (found .done-is) ∙ h))
 
-    pub piece-wrote : f ≡ true → (u : State) (o : List ℕ) → u ≡ rowsOf (K .words s) → o ≡ writtenAt (K .width) p (K .way) (label .part) x u out
-        → o ≡ pieceOut K s label x out
-    unfolding pieceOut
-    piece-wrote h u o eu eo =
-        where-done a _ f answered ef o _ out h
-        (eo ∙ ap₂ (λ (y : Place) (z : State). writtenAt (K .width) y (K .way) (label .part) x z out) ep eu)
+  -- the session that was put together is the one that took the piece in
+  made-taken : found .done ≡ true → (made : PieceMade K s label x (found .place)) → made .session ≡ takenOf K s (label .part) x
+  unfolding takenOf
+  made-taken h made =
+      let p : Place = found .place in
+      let room : leb (countOf p (label .part) + length x) (limitOf (label .part)) ≡ true = le-leb _ _ (piece-accepted h .room) in
+      let next : made .place ≡ moved p (label .part) (length x) = made .place-is ∙ ap (λ (b : Bool). cond b (moved p (label .part) (length x)) p) room in
+      let state : made .state ≡ takenAt (K .width) p (K .way) (label .part) x (rowsOf (K .words s)) = made .state-is ∙ ap (takenAt (K .width) p (K .way) (label .part) x) (made .rows-is) in
+      made .session-is ∙ ap₂ (λ (y : Place) (z : State). K .make y (flatOf z) (K .key s)) next state
+      ∙ ap (λ (y : Place). K .make (moved y (label .part) (length x)) (flatOf (takenAt (K .width) y (K .way) (label .part) x (rowsOf (K .words s)))) (K .key s)) (found .place-is)
 
-    pub piece-kept : f ≡ false → K .step a s ≡ pieceOf K s label x out
-    unfolding pieceOf
-    piece-kept h = step-of _ _ _ _ answered (where-not a _ f answered ef s _ s h refl)
+  pub piece-taken : found .done ≡ true → (made : PieceMade K s label x (found .place)) → K .step (found .answer) (made .session) ≡ pieceOf K s label x out
+  unfolding pieceOf
+  piece-taken h made = step-of K _ _ _ _ answered (where-done (found .answer) _ (found .done) answered (found .done-is) (made .session) _ s h (made-taken h made))
 
-    pub piece-left : f ≡ false → out ≡ pieceOut K s label x out
-    unfolding pieceOut
-    piece-left h = where-not a _ f answered ef out _ out h refl
+  pub piece-wrote : found .done ≡ true → (u : State) (o : List ℕ) → u ≡ rowsOf (K .words s) → o ≡ writtenAt (K .width) (found .place) (K .way) (label .part) x u out
+      → o ≡ pieceOut K s label x out
+  unfolding pieceOut
+  piece-wrote h u o eu eo =
+      where-done (found .answer) _ (found .done) answered (found .done-is) o _ out h
+      (eo ∙ ap₂ (λ (y : Place) (z : State). writtenAt (K .width) y (K .way) (label .part) x z out) (found .place-is) eu)
 
-  -- ---- close: p, a and f as before
+  pub piece-kept : found .done ≡ false → K .step (found .answer) s ≡ pieceOf K s label x out
+  unfolding pieceOf
+  piece-kept h = step-of K _ _ _ _ answered (where-not (found .answer) _ (found .done) answered (found .done-is) s _ s h refl)
 
-  module _ (s : K .Session) (edition : Edition) (tag : List ℕ) (p : Place) (a : Answer) (f : Bool)
-      (ep : p ≡ K .place s) (ea : a ≡ closeAnswer p edition (tagLength K) (length tag)) (ef : f ≡ doneOf a) where
-    closing : a ≡ closeAnswerOf K s edition tag
-    unfolding closeAnswerOf
-    closing = ea ∙ ap (λ (q : Place). closeAnswer q edition (tagLength K) (length tag)) ep
+  pub piece-left : found .done ≡ false → out ≡ pieceOut K s label x out
+  unfolding pieceOut
+  piece-left h = where-not (found .answer) _ (found .done) answered (found .done-is) out _ out h refl
 
-    pub close-fits : f ≡ true → (p .note ≤ limitOf Note) × (length tag ≡ tagLength K)
-    close-fits h = closable p edition (tagLength K) (length tag) (sym (ap doneOf ea) ∙ sym ef ∙ h)
+-- ---- close
 
-    -- the tag that was worked out is the session's own
-    tag-own : (u : State) (o : List ℕ) → u ≡ rowsOf (K .words s) → o ≡ tagAt K p (K .key s) u
-        → o ≡ ownTag K s
-    unfolding ownTag
-    tag-own u o eu eo =
-        eo ∙ ap₂ (λ (y : Place) (z : State). tagAt K y (K .key s) z) ep eu
+-- what a close came to before its answer was looked at: the session's place, the answer, and the test of it
+pub record CloseFound (K : Kind) (s : K .Session) (edition : Edition) (tag : List ℕ) : Type 0 where
+  pub place : Place
+  pub answer : Answer
+  pub done : Bool
+  pub place-is : place ≡ K .place s
+  pub answer-is : answer ≡ closeAnswer place edition (tagLength K) (length tag)
+  pub done-is : done ≡ doneOf answer
 
-    pub close-done : f ≡ true → (u : State) (o : List ℕ) (v : Answer) (t : K .Session) → u ≡ rowsOf (K .words s)
-        → o ≡ tagAt K p (K .key s) u → v ≡ verdictOf (K .way) tag o → t ≡ closedOf K
-        → K .step v t ≡ closeOf K s edition tag
-    unfolding closeOf
-    close-done h u o v t eu eo ev et =
-        where-done a _ f closing ef (K .step v t) _ _ h (step-of _ _ _ _ (ev ∙ ap (verdictOf (K .way) tag) (tag-own u o eu eo)) et)
+-- the tag that was worked out where it is done, from the rows of the session's words
+pub record TagMade (K : Kind) (s : K .Session) (p : Place) : Type 0 where
+  pub rows : State
+  pub tag : List ℕ
+  pub rows-is : rows ≡ rowsOf (K .words s)
+  pub tag-is : tag ≡ tagAt K p (K .key s) rows
 
-    pub close-kept : f ≡ false → K .step a s ≡ closeOf K s edition tag
-    unfolding closeOf
-    close-kept h = where-not a _ f closing ef (K .step a s) _ (K .step (closeAnswerOf K s edition tag) s) h (step-of _ _ _ _ closing refl)
+module _ (K : Kind) (s : K .Session) (edition : Edition) (tag : List ℕ) (found : CloseFound K s edition tag) where
+  closing : found .answer ≡ closeAnswerOf K s edition tag
+  unfolding closeAnswerOf
+  closing = found .answer-is ∙ ap (λ (q : Place). closeAnswer q edition (tagLength K) (length tag)) (found .place-is)
 
-    pub close-tag : f ≡ true → (u : State) (o : List ℕ) → u ≡ rowsOf (K .words s)
-        → o ≡ tagAt K p (K .key s) u → o ≡ closeTag K s edition tag
-    unfolding closeTag
-    close-tag h u o eu eo = where-done a _ f closing ef o _ tag h (tag-own u o eu eo)
+  pub close-fits : found .done ≡ true → (found .place .note ≤ limitOf Note) × (length tag ≡ tagLength K)
+  close-fits h = closable (found .place) edition (tagLength K) (length tag) (sym (ap doneOf (found .answer-is)) ∙ sym (found .done-is) ∙ h)
 
-    pub close-left : f ≡ false → tag ≡ closeTag K s edition tag
-    unfolding closeTag
-    close-left h = where-not a _ f closing ef tag _ tag h refl
+  -- the tag that was worked out is the session's own
+  tag-own : (own : TagMade K s (found .place)) → own .tag ≡ ownTag K s
+  unfolding ownTag
+  tag-own own = own .tag-is ∙ ap₂ (λ (y : Place) (z : State). tagAt K y (K .key s) z) (found .place-is) (own .rows-is)
+
+  pub close-done : found .done ≡ true → (own : TagMade K s (found .place)) (v : Answer) (t : K .Session) → v ≡ verdictOf (K .way) tag (own .tag) → t ≡ closedOf K
+      → K .step v t ≡ closeOf K s edition tag
+  unfolding closeOf
+  close-done h own v t ev et =
+      where-done (found .answer) _ (found .done) closing (found .done-is) (K .step v t) _ _ h
+      (step-of K _ _ _ _ (ev ∙ ap (verdictOf (K .way) tag) (tag-own own)) et)
+
+  pub close-kept : found .done ≡ false → K .step (found .answer) s ≡ closeOf K s edition tag
+  unfolding closeOf
+  close-kept h =
+      where-not (found .answer) _ (found .done) closing (found .done-is) (K .step (found .answer) s) _ (K .step (closeAnswerOf K s edition tag) s) h
+      (step-of K _ _ _ _ closing refl)
+
+  pub close-tag : found .done ≡ true → (own : TagMade K s (found .place)) → own .tag ≡ closeTag K s edition tag
+  unfolding closeTag
+  close-tag h own = where-done (found .answer) _ (found .done) closing (found .done-is) (own .tag) _ tag h (tag-own own)
+
+  pub close-left : found .done ≡ false → tag ≡ closeTag K s edition tag
+  unfolding closeTag
+  close-left h = where-not (found .answer) _ (found .done) closing (found .done-is) tag _ tag h refl

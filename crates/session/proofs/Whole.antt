@@ -12,16 +12,16 @@ use Rattle.norx.proofs.Bytes.{Bytes, bytes-append}
 use Rattle.norx.proofs.Stream.{fed-part}
 use Rattle.norx.proofs.Text.{fed-text}
 use Rattle.norx.proofs.Unseal.{bytes-unfed, unfed-message}
-use Rattle.norx.proofs.Checked.{length-unfed}
+use Rattle.norx.proofs.Unfed.{length-unfed}
 use Rattle.answers.proofs.Chain.{both}
 use Rattle.places.specs.declared.terms.Terms.{Terms}
 use Rattle.places.specs.declared.Part.{Part}
 use Rattle.places.specs.declared.Part.the-variants.{Note, Body, Trailer}
 use Rattle.places.specs.Terms.{frontOf}
-use Rattle.places.specs.Places.{soundOf}
+use Rattle.places.specs.Places.{behindAll, soundOf}
 use Rattle.places.proofs.Editions.{front-bytes}
 use Rattle.session.specs.Sessions.{Way, sealing, checking, brought, taken, endIf, readied, Kind, tagAt}
-use Rattle.session.specs.Offered.{placeIn, headerOf, begunState, afterNote, inBody, afterBody, inTrailer, stateIn}
+use Rattle.session.specs.Offered.{placeIn, headerOf, startState, afterNote, inBody, afterBody, inTrailer, stateIn}
 use Rattle.session.proofs.Joining.{unreached, some-bytes, taken-none, ended-note}
 
 bytes-header : (T : Terms) (n : List ℕ) → Bytes n → Bytes (headerOf T n)
@@ -51,7 +51,7 @@ module _ (K : Kind) (key nonce : List ℕ) (T : Terms) where
   -- ---- every part ended
 
   abbrev closing : Part → List ℕ → List ℕ → List ℕ → State
-  closing part n b t = readied w (placeIn T part n b t) 3 (stateIn K key nonce T part n b t)
+  closing part n b t = readied w (placeIn T part n b t) behindAll (stateIn K key nonce T part n b t)
 
   abbrev whole : List ℕ → List ℕ → List ℕ → State
   whole n b t = ended w l trailerMark (inTrailer K key nonce T n b t) (length t)
@@ -93,7 +93,7 @@ module _ (K : Kind) (key nonce : List ℕ) (T : Terms) where
 
     note-whole : afterNote K key nonce T n ≡ beforeAsOne n
     unfolding beforeBody
-    note-whole = fed-part w l headerMark (begunState K key nonce T) (headerOf T n) (bytes-header T n bytes-n)
+    note-whole = fed-part w l headerMark (startState K key nonce T) (headerOf T n) (bytes-header T n bytes-n)
 
     body-whole : afterBody K key nonce T n b ≡ afterPart w l bodyMark (beforeAsOne n) msg
     unfolding taken

@@ -19,10 +19,10 @@ use Rattle.places.specs.declared.Part.the-variants.{Note, Body, Trailer}
 use Rattle.places.specs.declared.Place.{Place}
 use Rattle.places.specs.Places.{rankOf, soundOf, sealExact}
 use Rattle.session.specs.Sessions.{Way, sealing, taken, endIf, readied, writtenAt, exactOf, Kind, stateOf, pieceOut}
-use Rattle.session.specs.Offered.{Piece, isTaken, afterPiece, accepted, wrote, wroteAll, only, joined, placeIn, afterNote, stateIn}
+use Rattle.session.specs.Offered.{Piece, isAccepted, afterPiece, accepted, wrote, wroteAll, only, joined, placeIn, afterNote, stateIn}
 use Rattle.session.proofs.Joining.{unreached, some-bytes, text-more, ended-note}
-use Rattle.session.proofs.Refused.{Lawful, taken-answer, refused-session}
-use Rattle.session.proofs.Held.{at, place-held, state-held, accepted-held, one-taken, andPiece, taken-list, refused-list}
+use Rattle.session.proofs.Refused.{Lawful, accepted-answer, refused-session}
+use Rattle.session.proofs.Held.{at, place-held, state-held, accepted-held, one-accepted, andPiece, accepted-list, refused-list}
 
 module _ (K : Kind) (seals : K .way ≡ sealing) (key nonce : List ℕ) (T : Terms) where
   -- the ciphertext of a body behind a note
@@ -32,9 +32,9 @@ module _ (K : Kind) (seals : K .way ≡ sealing) (key nonce : List ℕ) (T : Ter
   abbrev left : Part → List ℕ → List ℕ → List ℕ → Part → List ℕ → List ℕ → List ℕ
   left part n b t k x out = writtenAt (K .width) (placeIn T part n b t) sealing k x (stateIn K key nonce T part n b t) out
 
-  body-begun : (n x out : List ℕ) → cipher n [] ++ left Note n [] [] Body x out ≡ cipher n x
+  body-first : (n x out : List ℕ) → cipher n [] ++ left Note n [] [] Body x out ≡ cipher n x
   unfolding fedText readied endIf
-  body-begun n x out = ap (λ (s : State). fedText (K .width) (T .rounds) s 0 x) (ended-note K key nonce T n)
+  body-first n x out = ap (λ (s : State). fedText (K .width) (T .rounds) s 0 x) (ended-note K key nonce T n)
 
   body-on : (n b x out : List ℕ) → cipher n b ++ left Body n b [] Body x out ≡ cipher n (b ++ x)
   unfolding readied endIf taken
@@ -52,7 +52,7 @@ module _ (K : Kind) (seals : K .way ≡ sealing) (key nonce : List ℕ) (T : Ter
   one-left : (part : Part) (n b t : List ℕ) (k : Part) (x out : List ℕ) → soundOf (placeIn T part n b t) ≡ true → leb (rankOf part) (rankOf k) ≡ true
       → sealExact k (length x) (length out) ≡ true → cipher n b ++ left part n b t k x out ≡ cipher (n ++ only Note k x) (b ++ only Body k x)
   one-left Note n [] [] Note x out e o f = note-on n x out (empty out (eqb-true (length out) 0 f))
-  one-left Note n [] [] Body x out e o f = rw append-nil (body-begun n x out)
+  one-left Note n [] [] Body x out e o f = rw append-nil (body-first n x out)
   one-left Note n [] [] Trailer x out e o f = none-more n [] out (empty out (eqb-true (length out) 0 f))
   one-left Note n (y ∷ b) t k x out e o f = absurd (some-bytes y b (both (eqb (length (y ∷ b)) 0) (eqb (length t) 0) (unreached T Note n (y ∷ b) t e) .0))
   one-left Note n [] (y ∷ t) k x out e o f = absurd (some-bytes y t (unreached T Note n [] (y ∷ t) e))
@@ -65,7 +65,7 @@ module _ (K : Kind) (seals : K .way ≡ sealing) (key nonce : List ℕ) (T : Ter
   one-left Trailer n b t Trailer x out e o f = none-more n b out (empty out (eqb-true (length out) 0 f))
 
   module _ (L : Lawful K) where
-    one-wrote : (part : Part) (n b t : List ℕ) (q : Piece) → isTaken K (at K L key nonce T part n b t) q ≡ true
+    one-wrote : (part : Part) (n b t : List ℕ) (q : Piece) → isAccepted K (at K L key nonce T part n b t) q ≡ true
         → cipher n b ++ wrote K (at K L key nonce T part n b t) q ≡ cipher (n ++ only Note (q .label .part) (q .bytes)) (b ++ only Body (q .label .part) (q .bytes))
     unfolding pieceOut
     one-wrote part n b t q h =
@@ -73,7 +73,7 @@ module _ (K : Kind) (seals : K .way ≡ sealing) (key nonce : List ℕ) (T : Ter
         let a = accepted-held K L key nonce T part n b t q h in
         let fits : sealExact (q .label .part) (length (q .bytes)) (length (q .out)) ≡ true = sym (ap (λ (way : Way). exactOf way (q .label .part) (length (q .bytes)) (length (q .out))) seals) ∙ a .fits in
         let o : wrote K s q ≡ left part n b t (q .label .part) (q .bytes) (q .out) =
-        cond-true (isTaken K s q) _ [] h ∙ cond-true _ _ (q .out) (sym (taken-answer K L s q) ∙ h)
+        cond-true (isAccepted K s q) _ [] h ∙ cond-true _ _ (q .out) (sym (accepted-answer K L s q) ∙ h)
         ∙ ap (λ (p : Place). writtenAt (K .width) p (K .way) (q .label .part) (q .bytes) (stateOf K s) (q .out)) (place-held K L key nonce T part n b t)
         ∙ ap₂ (λ (u : State) (way : Way). writtenAt (K .width) (placeIn T part n b t) way (q .label .part) (q .bytes) u (q .out)) (state-held K L key nonce T part n b t) seals in
         ap (λ (y : List ℕ). cipher n b ++ y) o ∙ one-left part n b t (q .label .part) (q .bytes) (q .out) (a .sound) (a .onward) fits
@@ -89,14 +89,14 @@ module _ (K : Kind) (seals : K .way ≡ sealing) (key nonce : List ℕ) (T : Ter
         let t′ : List ℕ = t ++ only Trailer (q .label .part) (q .bytes) in
         let u : K .Session = andPiece K L key nonce T part n b t q in
         ⊎-elim
-        (λ (h : isTaken K s q ≡ true).
+        (λ (h : isAccepted K s q ≡ true).
         sym (append-assoc (cipher n b) (wrote K s q) (wroteAll K (afterPiece K s q) qs))
-        ∙ ap₂ (λ (y : List ℕ) (v : K .Session). y ++ wroteAll K v qs) (one-wrote part n b t q h) (one-taken K L key nonce T part n b t q h)
+        ∙ ap₂ (λ (y : List ℕ) (v : K .Session). y ++ wroteAll K v qs) (one-wrote part n b t q h) (one-accepted K L key nonce T part n b t q h)
         ∙ all-wrote qs (q .label .part) n′ b′ t′
         ∙ ap₂ cipher (append-assoc n (only Note (q .label .part) (q .bytes)) (joined Note (accepted K u qs))) (append-assoc b (only Body (q .label .part) (q .bytes)) (joined Body (accepted K u qs)))
-        ∙ ap (λ (qs′ : List Piece). cipher (n ++ joined Note qs′) (b ++ joined Body qs′)) (taken-list K L key nonce T part n b t q qs h))
-        (λ (h : isTaken K s q ≡ false).
-        ap₂ (λ (y : List ℕ) (v : K .Session). cipher n b ++ (y ++ wroteAll K v qs)) (cond-false (isTaken K s q) _ [] h) (refused-session K L s q h)
+        ∙ ap (λ (qs′ : List Piece). cipher (n ++ joined Note qs′) (b ++ joined Body qs′)) (accepted-list K L key nonce T part n b t q qs h))
+        (λ (h : isAccepted K s q ≡ false).
+        ap₂ (λ (y : List ℕ) (v : K .Session). cipher n b ++ (y ++ wroteAll K v qs)) (cond-false (isAccepted K s q) _ [] h) (refused-session K L s q h)
         ∙ all-wrote qs part n b t
         ∙ ap (λ (qs′ : List Piece). cipher (n ++ joined Note qs′) (b ++ joined Body qs′)) (refused-list K L key nonce T part n b t q qs h))
-        (either (isTaken K s q))
+        (either (isAccepted K s q))

@@ -30,8 +30,8 @@ module _ (K : Kind) where
   callOf s q = pieceOf K s (q .label) (q .bytes) (q .out)
 
   -- whether a piece is answered 0
-  abbrev pub isTaken : K .Session → Piece → Bool
-  isTaken s q = doneOf (K .answer (callOf s q))
+  abbrev pub isAccepted : K .Session → Piece → Bool
+  isAccepted s q = doneOf (K .answer (callOf s q))
 
   abbrev pub afterPiece : K .Session → Piece → K .Session
   afterPiece s q = K .next (callOf s q)
@@ -44,12 +44,13 @@ module _ (K : Kind) where
   -- those of them that are accepted
   abbrev pub accepted : K .Session → List Piece → List Piece
   accepted s [] = []
-  accepted s (q ∷ qs) = cond (isTaken s q) (q ∷ accepted (afterPiece s q) qs) (accepted (afterPiece s q) qs)
+  accepted s (q ∷ qs) = cond (isAccepted s q) (q ∷ accepted (afterPiece s q) qs) (accepted (afterPiece s q) qs)
 
-  -- what the outputs of the accepted ones hold, joined
+  -- what the output of a piece holds where it is accepted
   abbrev pub wrote : K .Session → Piece → List ℕ
-  wrote s q = cond (isTaken s q) (pieceOut K s (q .label) (q .bytes) (q .out)) []
+  wrote s q = cond (isAccepted s q) (pieceOut K s (q .label) (q .bytes) (q .out)) []
 
+  -- the same of all of them, joined
   abbrev pub wroteAll : K .Session → List Piece → List ℕ
   wroteAll s [] = []
   wroteAll s (q ∷ qs) = wrote s q ++ wroteAll (afterPiece s q) qs
@@ -88,11 +89,11 @@ abbrev pub headerOf : Terms → List ℕ → List ℕ
 headerOf T note = frontOf (T .edition) ++ note
 
 module _ (K : Kind) (key nonce : List ℕ) (T : Terms) where
-  abbrev pub begunState : State
-  begunState = start (K .width) (T .rounds) (K .tagBits) (rowOf (K .width) key) (rowOf (K .width) nonce)
+  abbrev pub startState : State
+  startState = start (K .width) (T .rounds) (K .tagBits) (rowOf (K .width) key) (rowOf (K .width) nonce)
 
   abbrev pub inNote : List ℕ → State
-  inNote note = fed (K .width) (T .rounds) headerMark begunState 0 (headerOf T note)
+  inNote note = fed (K .width) (T .rounds) headerMark startState 0 (headerOf T note)
 
   abbrev pub afterNote : List ℕ → State
   afterNote note = ended (K .width) (T .rounds) headerMark (inNote note) (length (headerOf T note))

@@ -12,7 +12,7 @@ use Rattle.places.specs.declared.terms.Terms.{Terms}
 use Rattle.places.specs.declared.Part.{Part}
 use Rattle.places.specs.declared.Part.the-variants.{Note, Body, Trailer}
 use Rattle.session.specs.Sessions.{Kind, tagLength, startOf, pieceOut, closeOf, closeTag}
-use Rattle.session.specs.Offered.{Piece, isTaken, afterPiece, afterAll, accepted, wroteAll, joined, heldBy, sealedAsOne, openedAsOne}
+use Rattle.session.specs.Offered.{Piece, isAccepted, afterPiece, afterAll, accepted, wroteAll, joined, heldBy, sealedAsOne, openedAsOne}
 
 -- every piece is bytes, as a lent slice is
 abbrev pub AreBytes : List Piece → Type 0
@@ -33,36 +33,36 @@ module _ (K : Kind) (key nonce : List ℕ) (T : Terms) where
     sessionAfter = afterAll K begun qs
 
     -- those of them that it accepted, and their bytes of one part, joined
-    abbrev pub took : List Piece
-    took = accepted K begun qs
+    abbrev pub acceptedPieces : List Piece
+    acceptedPieces = accepted K begun qs
 
-    abbrev pub tookOf : Part → List ℕ
-    tookOf part = joined part took
+    abbrev pub joinedPart : Part → List ℕ
+    joinedPart part = joined part acceptedPieces
 
     -- its close under its own edition is answered 0, and the ciphertext written, joined, with the tag is one sealing of the joined accepted pieces
     abbrev pub SealsAsOne : List ℕ → Type 0
     SealsAsOne tag =
         (K .answer (closeOf K sessionAfter (T .edition) tag) ≡ Done)
-        × (wroteAll K begun qs ++ closeTag K sessionAfter (T .edition) tag ≡ sealedAsOne K key nonce T (tookOf Note) (tookOf Body) (tookOf Trailer))
+        × (wroteAll K begun qs ++ closeTag K sessionAfter (T .edition) tag ≡ sealedAsOne K key nonce T (joinedPart Note) (joinedPart Body) (joinedPart Trailer))
 
     -- its close under its own edition answers as one opening of the joined accepted pieces and the tag does: 0 where it gives a message, 10 where it gives none
     abbrev pub ChecksAsOne : List ℕ → Type 0
     ChecksAsOne tag =
-        K .answer (closeOf K sessionAfter (T .edition) tag) ≡ answerOf (openedAsOne K key nonce T (tookOf Note) (tookOf Body ++ tag) (tookOf Trailer))
+        K .answer (closeOf K sessionAfter (T .edition) tag) ≡ answerOf (openedAsOne K key nonce T (joinedPart Note) (joinedPart Body ++ tag) (joinedPart Trailer))
 
 module _ (K : Kind) where
   -- the session held is the one of the accepted pieces joined part by part
   abbrev pub OneSession : Type 0
   OneSession =
       (key nonce : List ℕ) (T : Terms) → Started K key nonce T → (qs : List Piece)
-      → sessionAfter K key nonce T qs ≡ heldBy K key nonce T (took K key nonce T qs)
+      → sessionAfter K key nonce T qs ≡ heldBy K key nonce T (acceptedPieces K key nonce T qs)
 
   -- two sessions begun alike, in the same part, with the same joined pieces, are equal
   abbrev pub Alike : Type 0
   Alike =
       (key nonce : List ℕ) (T : Terms) → Started K key nonce T → (qs qs′ : List Piece)
       → K .place (sessionAfter K key nonce T qs) .standing ≡ K .place (sessionAfter K key nonce T qs′) .standing
-      → ((part : Part) → tookOf K key nonce T qs part ≡ tookOf K key nonce T qs′ part)
+      → ((part : Part) → joinedPart K key nonce T qs part ≡ joinedPart K key nonce T qs′ part)
       → sessionAfter K key nonce T qs ≡ sessionAfter K key nonce T qs′
 
   -- with a tag buffer of the right length, the close of a sealing session completes one sealing
@@ -80,7 +80,7 @@ module _ (K : Kind) where
   -- a refused piece changes no session and no output, of any session at all
   abbrev pub RefusedNothing : Type 0
   RefusedNothing =
-      (s : K .Session) (q : Piece) → isTaken K s q ≡ false → (afterPiece K s q ≡ s) × (pieceOut K s (q .label) (q .bytes) (q .out) ≡ q .out)
+      (s : K .Session) (q : Piece) → isAccepted K s q ≡ false → (afterPiece K s q ≡ s) × (pieceOut K s (q .label) (q .bytes) (q .out) ≡ q .out)
 
   -- a list with refused pieces gives what the list without them gives
   abbrev pub WithoutRefused : Type 0

@@ -1,10 +1,9 @@
 -- What each call on a session gives, on all inputs, over the session's kind.
 -- Assumes nothing.
 use Prim.Native.Nat.{ℕ, _/_}
-use mathlib.Core.Bool.{Bool, true, _&&_, cond}
+use mathlib.Core.Bool.{Bool, true, cond}
 use mathlib.Core.List.{List, [], _∷_}
 use lib.ListN.{length, replicate}
-use lib.Dec.{ltb, leb}
 use Rattle.norx.specs.Norx.{Width, rowBytes, State, row, rows, wordAt, rowAt, rowOf, headerMark, bodyMark, trailerMark, start, tagOf, same}
 use Rattle.norx.specs.Stream.{fed, ended, fedText, unfed}
 use Rattle.answers.specs.declared.Answer.{Answer}
@@ -17,7 +16,7 @@ use Rattle.places.specs.declared.Part.the-variants.{Note, Body, Trailer}
 use Rattle.places.specs.declared.Label.{Label}
 use Rattle.places.specs.declared.Place.{Place}
 use Rattle.places.specs.Terms.{frontOf}
-use Rattle.places.specs.Places.{rankOf, markOf, presentOf, fedOf, freshPlace, closedPlace, moved, startAnswer, pieceAnswer, sealExact, closeAnswer}
+use Rattle.places.specs.Places.{rankOf, behindAll, markOf, endsOf, fedOf, freshPlace, closedPlace, moved, startAnswer, pieceAnswer, sealExact, closeAnswer}
 
 -- a session seals messages, or checks ciphertext against a tag
 pub data Way : Type 0 where
@@ -57,18 +56,18 @@ module _ (w : Width) (l : ℕ) where
   unfoldable pub taken : Way → Part → State → ℕ → List ℕ → State
   taken way part s n x = fed w l (markOf part) s n (brought part way s n x)
 
+  -- a part of n bytes ended, where that is due
   unfoldable pub endIf : ℕ → Bool → State → ℕ → State
-  endIf m ok s n = cond ok (ended w l m s n) s
+  endIf m due s n = cond due (ended w l m s n) s
 
 module _ (w : Width) (p : Place) where
-  -- the parts from the present one on are ended, up to the one of rank `next`
+  -- the parts from the present one on are ended, up to the one of rank `next` and without it
   unfoldable pub readied : ℕ → State → State
   readied next s =
-      let from = presentOf (p .standing) in
       let l = p .terms .rounds in
-      endIf w l trailerMark (leb from 2 && ltb 2 next)
-      (endIf w l bodyMark (leb from 1 && ltb 1 next)
-      (endIf w l headerMark (leb from 0 && ltb 0 next) s (fedOf p Note))
+      endIf w l trailerMark (endsOf Trailer (p .standing) next)
+      (endIf w l bodyMark (endsOf Body (p .standing) next)
+      (endIf w l headerMark (endsOf Note (p .standing) next) s (fedOf p Note))
       (fedOf p Body))
       (fedOf p Trailer)
 
@@ -158,7 +157,7 @@ module _ (K : Kind) where
 
   -- the tag at a place, under a key as words: once every part is ended
   abbrev pub tagAt : Place → List ℕ → State → List ℕ
-  tagAt p key s = tagOf (K .width) (p .terms .rounds) (K .tagBits) key (readied (K .width) p 3 s)
+  tagAt p key s = tagOf (K .width) (p .terms .rounds) (K .tagBits) key (readied (K .width) p behindAll s)
 
   -- the tag of all that a session took in
   unfoldable pub ownTag : K .Session → List ℕ

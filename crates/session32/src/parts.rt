@@ -2,16 +2,19 @@
 ghost use mathlib.Core.Path.{_≡_};
 ghost use Prim.Native.Nat.{_≤_};
 ghost use lib.ListN.{length};
+ghost use Rattle.norx.specs.Lent.{was};
 ghost use Rattle.norx.specs.Norx.{word32, rowBytes, tagBits, rowOf, tagOf};
-ghost use Rattle.places.specs.Places.{limitOf};
+ghost use Rattle.places.specs.Places.{behindAll, limitOf};
 ghost use Rattle.session.specs.Sessions.{rowsOf, flatOf, freshState, endIf, readied as readiedOf};
 ghost use Rattle.places.specs.declared.Part.the-variants.{Note};
 use blocks32::ends::row;
 use blocks32::ends::start;
 use blocks32::ends::tag;
+use places::BEHIND_ALL;
+use places::Part;
 use places::Place;
+use places::ends;
 use places::front::front;
-use places::present;
 use places::terms::Terms;
 use rules::BODY_MARK;
 use rules::FRONT;
@@ -60,7 +63,7 @@ pub(crate) fn flat(s: State) -> [Word; 16]
 // The state that a session starts with: the front stands before its note.
 pub(crate) fn fresh(terms: Terms, key: Row, nonce: &[u8]) -> State
     requires { ⌜ length (now nonce) ≡ rowBytes word32 ⌝ }
-    ensures { λ r. ⌜ r ≡ freshState word32 (tagBits word32) terms key (rowOf word32 (now (nonce .entry))) ⌝ }
+    ensures { λ r. ⌜ r ≡ freshState word32 (tagBits word32) terms key (rowOf word32 (was nonce)) ⌝ }
 {
     let b = front(terms.edition);
     feed(
@@ -72,35 +75,32 @@ pub(crate) fn fresh(terms: Terms, key: Row, nonce: &[u8]) -> State
     )
 }
 
-fn end_if(ok: bool, s: State, rounds: u32, mark: u8, n: usize) -> State
-    ensures { λ r. ⌜ r ≡ endIf word32 rounds mark ok s n ⌝ }
+// A part of n bytes ended, where that is due.
+fn end_if(due: bool, s: State, rounds: u32, mark: u8, n: usize) -> State
+    ensures { λ r. ⌜ r ≡ endIf word32 rounds mark due s n ⌝ }
 {
-    if ok { end(s, rounds, mark, n) } else { s }
+    if due { end(s, rounds, mark, n) } else { s }
 }
 
-// The parts from the present one on ended, up to the one of rank next.
+// The parts from the present one on ended, up to the one of rank next and without it.
 pub(crate) fn readied(s: State, p: Place, next: u32) -> State
     requires { ⌜ p .note ≤ limitOf Note ⌝ }
     ensures { λ r. ⌜ r ≡ readiedOf word32 p next s ⌝ }
 {
     let standing = p.standing;
-    let from = present(standing);
     let rounds = p.terms.rounds;
-    let a = end_if(
-        (from <= 0) & (0 < next),
-        s,
-        rounds,
-        HEADER_MARK,
-        FRONT + p.note,
-    );
-    let b = end_if((from <= 1) & (1 < next), a, rounds, BODY_MARK, p.body);
-    end_if((from <= 2) & (2 < next), b, rounds, TRAILER_MARK, p.trailer)
+    let ends_note = ends(Part::Note, standing, next);
+    let a = end_if(ends_note, s, rounds, HEADER_MARK, FRONT + p.note);
+    let ends_body = ends(Part::Body, standing, next);
+    let b = end_if(ends_body, a, rounds, BODY_MARK, p.body);
+    let ends_trailer = ends(Part::Trailer, standing, next);
+    end_if(ends_trailer, b, rounds, TRAILER_MARK, p.trailer)
 }
 
 // The tag of all that a session took in.
 pub(crate) fn own_tag(s: State, p: Place, key: Row) -> [u8; TAG]
     requires { ⌜ p .note ≤ limitOf Note ⌝ }
-    ensures { λ r. ⌜ r ≡ tagOf word32 (p .terms .rounds) (tagBits word32) key (readiedOf word32 p 3 s) ⌝ }
+    ensures { λ r. ⌜ r ≡ tagOf word32 (p .terms .rounds) (tagBits word32) key (readiedOf word32 p behindAll s) ⌝ }
 {
-    tag(p.terms.rounds, key, readied(s, p, 3))
+    tag(p.terms.rounds, key, readied(s, p, BEHIND_ALL))
 }

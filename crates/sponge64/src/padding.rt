@@ -3,13 +3,14 @@ ghost use mathlib.Core.Path.{_≡_};
 ghost use mathlib.Core.List.{_++_};
 ghost use Prim.Native.Nat.{_-_, _<_, _≤_};
 ghost use lib.ListN.{length, replicate};
+ghost use Rattle.norx.specs.Lent.{was};
 ghost use Rattle.norx.specs.Norx.{word64, rate, padded as paddedOf};
 use rules::w64::*;
 
 // The left bytes of a part in a block of zeros.
 pub(crate) fn filled(left: &[u8]) -> [u8; RATE]
     requires { ⌜ length (now left) ≤ rate word64 ⌝ }
-    ensures { λ q. ⌜ q ≡ now (left .entry) ++ replicate (rate word64 - length (now (left .entry))) 0 ⌝ }
+    ensures { λ q. ⌜ q ≡ was left ++ replicate (rate word64 - length (was left)) 0 ⌝ }
 {
     let mut b = [0u8; 96];
     bytes::copy(left, &mut b);
@@ -19,7 +20,7 @@ pub(crate) fn filled(left: &[u8]) -> [u8; RATE]
 // The padded block: 01 xored into the byte behind the left bytes, and 80 (hexadecimal) into the last.
 pub(crate) fn padded(left: &[u8]) -> [u8; RATE]
     requires { ⌜ length (now left) < rate word64 ⌝ }
-    ensures { λ q. ⌜ q ≡ paddedOf (rate word64) (now (left .entry)) ⌝ }
+    ensures { λ q. ⌜ q ≡ paddedOf (rate word64) (was left) ⌝ }
 {
     let mut b = filled(left);
     let k = left.len();

@@ -1,11 +1,12 @@
 // Texts compared to the end, and cleared to the end.
 ghost use mathlib.Core.Path.{_≡_};
 ghost use lib.ListN.{length, replicate};
+ghost use Rattle.norx.specs.Lent.{was};
 ghost use Rattle.norx.specs.Norx.{same as sameOf};
 
 fn same_bytes(a: &[u8], b: &[u8]) -> bool
     requires { ⌜ length (now a) ≡ length (now b) ⌝ }
-    ensures { λ r. ⌜ r ≡ sameOf (now (a .entry)) (now (b .entry)) ⌝ }
+    ensures { λ r. ⌜ r ≡ sameOf (was a) (was b) ⌝ }
 {
     let mut ok = true;
     let mut i = 0;
@@ -16,9 +17,9 @@ fn same_bytes(a: &[u8], b: &[u8]) -> bool
     ok
 }
 
-// Whether two texts are the same; every byte is looked at where their lengths are.
+// Whether two texts are the same; where they are of one length, every byte is looked at.
 pub fn same(a: &[u8], b: &[u8]) -> bool
-    ensures { λ r. ⌜ r ≡ sameOf (now (a .entry)) (now (b .entry)) ⌝ }
+    ensures { λ r. ⌜ r ≡ sameOf (was a) (was b) ⌝ }
 {
     if a.len() == b.len() {
         same_bytes(a, b)
@@ -29,7 +30,7 @@ pub fn same(a: &[u8], b: &[u8]) -> bool
 
 // Zeros in every byte.
 pub fn clear(out: &mut [u8])
-    ensures { λ _. ⌜ now (out .exit) ≡ replicate (length (now (out .entry))) 0 ⌝ }
+    ensures { λ _. ⌜ now (out .exit) ≡ replicate (length (was out)) 0 ⌝ }
 {
     let mut i = 0;
     while i < out.len() {

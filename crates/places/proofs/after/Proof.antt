@@ -1,4 +1,4 @@
--- `places::after`: where there is room, by `taken`.
+-- `places::after`: where there is room, by `moved`.
 -- Assumes nothing.
 use mathlib.Core.Path.{_≡_, sym, ap₂, _∙_}
 use mathlib.Core.Bool.{true, false}
@@ -10,8 +10,8 @@ use Rattle.places.specs.Places.{countOf, limitOf}
 use Rattle.places.proofs.after.Statement.{statement}
 use Rattle.places.proofs.after.Tie as tie
 
-taken-requires : tie.Need-taken-requires
-taken-requires c κs =
+moved-requires : tie.Need-moved-requires
+moved-requires c κs =
     let room = c .before in
     let had = room .before .before in
     let x = had .before .args in
@@ -25,7 +25,7 @@ returns c =
     let x = had .before .args in
     let e : leb (countOf (x .p) (x .part) + x .n) (limitOf (x .part)) ≡ true =
     sym (ap₂ (λ (a b : ℕ). leb (a + x .n) b) (had .count .ensures) (room .before .limit .ensures)) ∙ sym (room .fits2 .ensures) ∙ c .before .if1 .taken in
-    rw e (c .taken .ensures)
+    rw e (c .moved .ensures)
 
 returns-2 : tie.Need-returns-2
 returns-2 c =
@@ -37,4 +37,4 @@ returns-2 c =
     rw e
 
 pub after-spec : {M : Type 1} → statement M
-after-spec = tie.close (tie.spec (λ c κs. search needs) (λ c κs. search needs) (λ c κs. search needs) taken-requires returns returns-2)
+after-spec = tie.close (tie.spec (λ c κs. search needs) (λ c κs. search needs) (λ c κs. search needs) moved-requires returns returns-2)

@@ -89,8 +89,8 @@ fn check_before_tag(
 }
 
 // A note or a trailer that a sealing session takes in.
-fn seal_part(begun: Sealing, part: Part, text: &[u8], cut: usize) -> Sealing {
-    let mut s = begun;
+fn seal_part(session: Sealing, part: Part, text: &[u8], cut: usize) -> Sealing {
+    let mut s = session;
     let mut i = 0;
     while i < text.len() {
         let e = piece_end(i, text.len(), cut);
@@ -102,8 +102,8 @@ fn seal_part(begun: Sealing, part: Part, text: &[u8], cut: usize) -> Sealing {
 }
 
 // A body that a sealing session takes in, where the output is as long.
-fn seal_body(begun: Sealing, text: &[u8], cut: usize, out: &mut [u8]) -> Sealing {
-    let mut s = begun;
+fn seal_body(session: Sealing, text: &[u8], cut: usize, out: &mut [u8]) -> Sealing {
+    let mut s = session;
     if out.len() == text.len() {
         let mut i = 0;
         while i < text.len() {
@@ -117,8 +117,8 @@ fn seal_body(begun: Sealing, text: &[u8], cut: usize, out: &mut [u8]) -> Sealing
 }
 
 // A part that a checking session takes in.
-fn check_part(begun: Checking, part: Part, text: &[u8], cut: usize) -> Checking {
-    let mut s = begun;
+fn check_part(session: Checking, part: Part, text: &[u8], cut: usize) -> Checking {
+    let mut s = session;
     let mut i = 0;
     while i < text.len() {
         let e = piece_end(i, text.len(), cut);

@@ -4,7 +4,7 @@ use mathlib.Core.Path.{_∙_}
 use borrow.Author.Needs.{needs}
 use Rattle.norx.specs.Norx.{word32}
 use Rattle.norx.proofs.Owned.{whole-owned}
-use Rattle.norx.proofs.Shape.{shaped-whole, shaped-taken, unkeyed}
+use Rattle.norx.proofs.Shape.{shaped-whole, shaped-turns, unkeyed}
 use Rattle.blocks32.proofs.turns.turns.Statement.{statement}
 use Rattle.blocks32.proofs.turns.turns.Tie as tie
 
@@ -14,7 +14,7 @@ returns c =
     let start = turned .before .before .before .before in
     let x = start .args in
     let s = shaped-whole word32 (x .s) (whole-owned word32 (x .s) _ (start .good .0)) in
-    (turned .turns-keyed .ensures .0 ∙ unkeyed _ (shaped-taken word32 (x .rounds) (x .m) (x .opening) (x .s) (x .d .now) _ s), turned .turns-keyed .ensures .1)
+    (turned .turns-keyed .ensures .0 ∙ unkeyed _ (shaped-turns word32 (x .rounds) (x .m) (x .opening) (x .s) (x .d .now) _ s), turned .turns-keyed .ensures .1)
 
 pub turns-spec : {M : Type 1} → statement M
 turns-spec = tie.close (tie.spec (λ c κs. search needs) (λ c. search needs) returns)

@@ -26,8 +26,8 @@ returns c =
     link RoundsNumber (c .need5 .ensures) (rounds .rounds-ok .ensures)
     (link KeyLength (n4 .need4 .ensures) (lengths .lengths-ok .ensures)
     (link TagLength (n3 .need3 .ensures) refl
-    (link OverLimit (n2 .need2 .ensures) (limits .within .ensures ∙ ap (λ (n : ℕ). within (x .header) n (x .trailer)) (body .less .ensures))
-    (link OutputLength (n1 .need .ensures) (ap (λ (n : ℕ). eqb (x .out) n) (body .less .ensures)) refl))))
+    (link OverLimit (n2 .need2 .ensures) (limits .within .ensures ∙ ap (λ (n : ℕ). within (x .header) n (x .trailer)) (body .minus-or-zero .ensures))
+    (link OutputLength (n1 .need .ensures) (ap (λ (n : ℕ). eqb (x .out) n) (body .minus-or-zero .ensures)) refl))))
 
 pub open-checks-spec : {M : Type 1} → statement M
 open-checks-spec =

@@ -19,7 +19,7 @@ returns c =
     let lengths = limits .before in
     link RoundsNumber (c .need4 .ensures) (lengths .before .rounds-ok .ensures)
     (link KeyLength (n3 .need3 .ensures) (lengths .lengths-ok .ensures)
-    (link OverLimit (n2 .need2 .ensures) (limits .within .ensures) (link OutputLength (n1 .need .ensures) (exact .together .ensures) refl)))
+    (link OverLimit (n2 .need2 .ensures) (limits .within .ensures) (link OutputLength (n1 .need .ensures) (exact .is-sum .ensures) refl)))
 
 pub seal-checks-spec : {M : Type 1} → statement M
 seal-checks-spec =

@@ -1,4 +1,4 @@
--- `sponge32::pieces::check`: the bytes that fill the begun block, and the rest.
+-- `sponge32::pieces::check`: the bytes that go on in a block, and the rest.
 -- Assumes nothing.
 use borrow.Author.Needs.{needs}
 use mathlib.Core.Path.{ap}
@@ -9,12 +9,12 @@ use lib.ListN.{take}
 use lib.Seq.{length-take-le}
 use Rattle.norx.specs.Norx.{word32}
 use Rattle.norx.proofs.Slices.{tail}
-use Rattle.norx.proofs.Checked.{checked-piece}
+use Rattle.norx.proofs.Unfed.{checked-piece}
 use Rattle.sponge32.proofs.pieces.check.Statement.{statement}
 use Rattle.sponge32.proofs.pieces.check.Tie as tie
 
-check-begun-requires : tie.Need-check-begun-requires
-check-begun-requires c κs =
+check-filling-requires : tie.Need-check-filling-requires
+check-filling-requires c κs =
     let k = c .before .filling .result in
     let t = c .before .before .before .args .c .now in
     let e = c .before .filling .ensures in
@@ -23,17 +23,17 @@ check-begun-requires c κs =
 
 returns : tie.Need-returns
 returns c =
-    let begun = c .before .before in
-    let filling = begun .before .before in
+    let first = c .before .before in
+    let filling = first .before .before in
     let x = filling .before .before .args in
     let t = x .c .now in
     let k = filling .filling .result in
     checked-piece word32 (x .rounds) (x .s) (x .n) k t (filling .filling .ensures .0) (filling .filling .ensures .3) (ap (λ (i : ℕ). take i t) (sub-zero k)) (tail k t)
-    (begun .check-begun .ensures) (c .check-aligned .ensures)
+    (first .check-filling .ensures) (c .check-aligned .ensures)
 
 pub check-spec : {M : Type 1} → statement M
 check-spec =
     tie.close
     (tie.spec
-    (λ c κs. search needs) (λ c. search needs) (λ c. search needs) (λ c. search needs) check-begun-requires (λ c. search needs)
+    (λ c κs. search needs) (λ c. search needs) (λ c. search needs) (λ c. search needs) check-filling-requires (λ c. search needs)
     (λ c. search needs) (λ c. search needs) (λ c κs. search needs) returns)

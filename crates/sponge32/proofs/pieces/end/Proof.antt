@@ -4,7 +4,7 @@ use borrow.Author.Needs.{needs}
 use Prim.Native.Nat.{_%_}
 use native.Mathlib.Omega.{arith}
 use Rattle.norx.specs.Norx.{word32, rate}
-use Rattle.norx.proofs.Taken.{end-none, end-fresh, end-begun, zeros-cut}
+use Rattle.norx.proofs.Fed.{end-none, end-fresh, end-within, zeros-cut}
 use Rattle.sponge32.proofs.pieces.end.Statement.{statement}
 use Rattle.sponge32.proofs.pieces.end.Tie as tie
 
@@ -25,12 +25,12 @@ returns-2 c =
 
 returns-3 : tie.Need-returns-3
 returns-3 c =
-    let begun = c .before .before in
-    let pad = begun .before in
+    let within = c .before .before in
+    let pad = within .before in
     let some = pad .before .before .before in
     let x = some .before .args in
-    end-begun word32 (x .rounds) (x .m) (x .s) (x .n) (some .if1 .left) (zeros-cut (rate word32) (x .n % rate word32) (omega arith)) (pad .padded .ensures)
-    (begun .if2 .left) (c .xor-block2 .ensures)
+    end-within word32 (x .rounds) (x .m) (x .s) (x .n) (some .if1 .left) (zeros-cut (rate word32) (x .n % rate word32) (omega arith)) (pad .padded .ensures)
+    (within .if2 .left) (c .xor-block2 .ensures)
 
 pub end-spec : {M : Type 1} → statement M
 end-spec =

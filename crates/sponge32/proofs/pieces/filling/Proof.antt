@@ -1,4 +1,4 @@
--- `sponge32::pieces::filling`: the room of a begun block, or all that there is.
+-- `sponge32::pieces::filling`: the room of a block that has bytes, or all that there is.
 -- Assumes nothing.
 use borrow.Author.Needs.{needs}
 use mathlib.Core.Logic.{inl, inr}

@@ -2,7 +2,7 @@
 -- Assumes nothing.
 use borrow.Author.Needs.{needs}
 use Rattle.norx.specs.Norx.{word32, rate}
-use Rattle.norx.proofs.Taken.{placed-of}
+use Rattle.norx.proofs.Fed.{placed-of}
 use Rattle.sponge32.proofs.pieces.placed.Statement.{statement}
 use Rattle.sponge32.proofs.pieces.placed.Tie as tie
 

@@ -2,7 +2,7 @@
 -- Assumes nothing.
 use borrow.Author.Needs.{needs}
 use Rattle.norx.specs.Norx.{word32, rate}
-use Rattle.norx.proofs.Shown.{rate-shown}
+use Rattle.norx.proofs.FedText.{rate-shown}
 use Rattle.sponge32.proofs.pieces.show_rate.Statement.{statement}
 use Rattle.sponge32.proofs.pieces.show_rate.Tie as tie
 

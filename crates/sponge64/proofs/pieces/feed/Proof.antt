@@ -1,4 +1,4 @@
--- `sponge64::pieces::feed`: the bytes that fill the begun block, and the rest.
+-- `sponge64::pieces::feed`: the bytes that go on in a block, and the rest.
 -- Assumes nothing.
 use borrow.Author.Needs.{needs}
 use mathlib.Core.Path.{ap}
@@ -9,12 +9,12 @@ use lib.ListN.{take}
 use lib.Seq.{length-take-le}
 use Rattle.norx.specs.Norx.{word64}
 use Rattle.norx.proofs.Slices.{tail}
-use Rattle.norx.proofs.Taken.{piece-of}
+use Rattle.norx.proofs.Fed.{piece-of}
 use Rattle.sponge64.proofs.pieces.feed.Statement.{statement}
 use Rattle.sponge64.proofs.pieces.feed.Tie as tie
 
-feed-begun-requires : tie.Need-feed-begun-requires
-feed-begun-requires c κs =
+feed-filling-requires : tie.Need-feed-filling-requires
+feed-filling-requires c κs =
     let k = c .before .filling .result in
     let d = c .before .before .before .args .d .now in
     let e = c .before .filling .ensures in
@@ -23,17 +23,17 @@ feed-begun-requires c κs =
 
 returns : tie.Need-returns
 returns c =
-    let begun = c .before .before in
-    let filling = begun .before .before in
+    let first = c .before .before in
+    let filling = first .before .before in
     let x = filling .before .before .args in
     let d = x .d .now in
     let k = filling .filling .result in
     piece-of word64 (x .rounds) (x .m) (x .s) (x .n) k d (filling .filling .ensures .0) (filling .filling .ensures .3) (ap (λ (i : ℕ). take i d) (sub-zero k)) (tail k d)
-    (begun .feed-begun .ensures) (c .feed-aligned .ensures)
+    (first .feed-filling .ensures) (c .feed-aligned .ensures)
 
 pub feed-spec : {M : Type 1} → statement M
 feed-spec =
     tie.close
     (tie.spec
-    (λ c κs. search needs) (λ c. search needs) (λ c. search needs) (λ c. search needs) feed-begun-requires (λ c. search needs)
+    (λ c κs. search needs) (λ c. search needs) (λ c. search needs) (λ c. search needs) feed-filling-requires (λ c. search needs)
     (λ c. search needs) (λ c. search needs) (λ c κs. search needs) returns)

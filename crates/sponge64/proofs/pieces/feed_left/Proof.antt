@@ -2,7 +2,7 @@
 -- Assumes nothing.
 use borrow.Author.Needs.{needs}
 use Rattle.norx.specs.Norx.{word64}
-use Rattle.norx.proofs.Taken.{fed-none, fresh-of}
+use Rattle.norx.proofs.Fed.{fed-none, fresh-of}
 use Rattle.sponge64.proofs.pieces.feed_left.Statement.{statement}
 use Rattle.sponge64.proofs.pieces.feed_left.Tie as tie
 

@@ -2,7 +2,7 @@
 -- Assumes nothing.
 use borrow.Author.Needs.{needs}
 use Rattle.norx.specs.Norx.{word64, rate}
-use Rattle.norx.proofs.Taken.{placed-of}
+use Rattle.norx.proofs.Fed.{placed-of}
 use Rattle.sponge64.proofs.pieces.placed.Statement.{statement}
 use Rattle.sponge64.proofs.pieces.placed.Tie as tie
 

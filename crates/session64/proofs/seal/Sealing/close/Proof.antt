@@ -5,7 +5,7 @@ use mathlib.Core.Path.{refl, _∙_}
 use native.Mathlib.Omega.{arith}
 use Rattle.norx.specs.Norx.{word64}
 use Rattle.session.proofs.Parts.{copied-over, own-long}
-use Rattle.session.proofs.Steps.{close-fits, close-done, close-tag, close-kept, close-left}
+use Rattle.session.proofs.Steps.{CloseFound, TagMade, close-fits, close-done, close-tag, close-kept, close-left}
 use borrow.Author.Needs.{needs}
 use Rattle.session64.proofs.seal.Sealing.close.Statement.{statement}
 use Rattle.session64.proofs.seal.Sealing.close.Tie as tie
@@ -17,7 +17,15 @@ own-tag-requires c κs =
     let answer = done .before in
     let place = answer .before in
     let x = place .before .before .args in
-    close-fits sealing64 (x .self) (x .edition) (x .tag .now) _ _ _ (place .place .ensures) (answer .close-answer .ensures) (done .done .ensures) (if1 .if1 .taken) .0
+    let found : CloseFound sealing64 (x .self) (x .edition) (x .tag .now) = record {
+      place = _;
+      answer = _;
+      done = _;
+      place-is = place .place .ensures;
+      answer-is = answer .close-answer .ensures;
+      done-is = done .done .ensures;
+    } in
+    close-fits sealing64 (x .self) (x .edition) (x .tag .now) found (if1 .if1 .taken) .0
 
 copy-requires : tie.Need-copy-requires
 copy-requires c κs =
@@ -26,7 +34,15 @@ copy-requires c κs =
     let answer = done .before in
     let place = answer .before in
     let x = place .before .before .args in
-    let long = close-fits sealing64 (x .self) (x .edition) (x .tag .now) _ _ _ (place .place .ensures) (answer .close-answer .ensures) (done .done .ensures) (if1 .if1 .taken) .1 in
+    let found : CloseFound sealing64 (x .self) (x .edition) (x .tag .now) = record {
+      place = _;
+      answer = _;
+      done = _;
+      place-is = place .place .ensures;
+      answer-is = answer .close-answer .ensures;
+      done-is = done .done .ensures;
+    } in
+    let long = close-fits sealing64 (x .self) (x .edition) (x .tag .now) found (if1 .if1 .taken) .1 in
     let same = own-long word64 _ _ _ (x .tag .now) (c .before .before .own-tag .ensures) long in
     omega (arith, same)
 
@@ -40,8 +56,23 @@ returns c =
     let answer = done .before in
     let place = answer .before in
     let x = place .before .before .args in
-    let long = close-fits sealing64 (x .self) (x .edition) (x .tag .now) _ _ _ (place .place .ensures) (answer .close-answer .ensures) (done .done .ensures) (if1 .if1 .taken) .1 in
-    (close-done sealing64 (x .self) (x .edition) (x .tag .now) _ _ _ (place .place .ensures) (answer .close-answer .ensures) (done .done .ensures) (if1 .if1 .taken) _ _ _ _ (rows .rows .ensures) (own .own-tag .ensures) refl (c .closed .ensures), close-tag sealing64 (x .self) (x .edition) (x .tag .now) _ _ _ (place .place .ensures) (answer .close-answer .ensures) (done .done .ensures) (if1 .if1 .taken) _ _ (rows .rows .ensures) (copied-over _ (x .tag .now) (own-long word64 _ _ _ (x .tag .now) (own .own-tag .ensures) long) (copy .copy .ensures .1) ∙ own .own-tag .ensures))
+    let found : CloseFound sealing64 (x .self) (x .edition) (x .tag .now) = record {
+      place = _;
+      answer = _;
+      done = _;
+      place-is = place .place .ensures;
+      answer-is = answer .close-answer .ensures;
+      done-is = done .done .ensures;
+    } in
+    let long = close-fits sealing64 (x .self) (x .edition) (x .tag .now) found (if1 .if1 .taken) .1 in
+    let made : TagMade sealing64 (x .self) (place .place .result) = record {
+      rows = _;
+      tag = _;
+      rows-is = rows .rows .ensures;
+      tag-is = own .own-tag .ensures;
+    } in
+    let copied = copied-over _ (x .tag .now) (own-long word64 _ _ _ (x .tag .now) (own .own-tag .ensures) long) (copy .copy .ensures .1) in
+    (close-done sealing64 (x .self) (x .edition) (x .tag .now) found (if1 .if1 .taken) made _ _ refl (c .closed .ensures), copied ∙ close-tag sealing64 (x .self) (x .edition) (x .tag .now) found (if1 .if1 .taken) made)
 
 returns-2 : tie.Need-returns-2
 returns-2 c =
@@ -49,7 +80,15 @@ returns-2 c =
     let answer = done .before in
     let place = answer .before in
     let x = place .before .before .args in
-    (close-kept sealing64 (x .self) (x .edition) (x .tag .now) _ _ _ (place .place .ensures) (answer .close-answer .ensures) (done .done .ensures) (c .if1 .left), close-left sealing64 (x .self) (x .edition) (x .tag .now) _ _ _ (place .place .ensures) (answer .close-answer .ensures) (done .done .ensures) (c .if1 .left))
+    let found : CloseFound sealing64 (x .self) (x .edition) (x .tag .now) = record {
+      place = _;
+      answer = _;
+      done = _;
+      place-is = place .place .ensures;
+      answer-is = answer .close-answer .ensures;
+      done-is = done .done .ensures;
+    } in
+    (close-kept sealing64 (x .self) (x .edition) (x .tag .now) found (c .if1 .left), close-left sealing64 (x .self) (x .edition) (x .tag .now) found (c .if1 .left))
 
 pub close-spec : {M : Type 1} → statement M
 close-spec = tie.close (tie.spec (λ c κs. search needs) (λ c κs. search needs) (λ c κs. search needs) (λ c κs. search needs) own-tag-requires (λ c. search needs) copy-requires (λ c κs. search needs) (λ c. search needs) returns returns-2)

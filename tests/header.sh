@@ -1,0 +1,33 @@
+#!/bin/sh
+# The header by itself: strict C takes it; an answer that is not looked at is refused where the warning is an error,
+# and taken where the macro of that warning is empty; and the version in the pkg-config file is the header's.
+
+set -eu
+. "$(dirname "$0")/place.sh"
+. tests/tools.sh
+
+mkdir -p target/tests
+cat >target/tests/unlooked.c <<'C'
+#include "jeczmilot.h"
+void unlooked(uint8_t *out);
+void unlooked(uint8_t *out) {
+    norx_open(64, 4, out, 0, out, 0, out, 0, out, 0, out, 0, out, 0);
+}
+C
+
+compiles() { # FLAGS..
+    $CC -Wall -Wextra -Werror -Iinclude -c -o target/tests/header.o "$@" 2>target/tests/header.out
+}
+
+compiles -std=c99 -pedantic -x c include/jeczmilot.h || { cat target/tests/header.out; exit 1; }
+compiles -std=c11 -pedantic -DJECZMILOT_LOOK_AT_THE_ANSWER= target/tests/unlooked.c || { cat target/tests/header.out; exit 1; }
+if compiles -std=c11 target/tests/unlooked.c; then
+    echo "an answer that is not looked at brings no warning"
+    exit 1
+fi
+grep -q 'unused-result' target/tests/header.out || { cat target/tests/header.out; exit 1; }
+
+packaging/install.sh "$root/target/tests/versioned" "$archive" >target/tests/header.out
+version=$(sed -n 's/^#define JECZMILOT_VERSION "\(.*\)"$/\1/p' include/jeczmilot.h)
+grep -qx "Version: ${version:?}" target/tests/versioned/lib/pkgconfig/jeczmilot.pc
+echo "version $version; an answer that is not looked at brings a warning"
