@@ -1,7 +1,7 @@
 /* Jeczmilot: sealing and opening of machine jobs with NORX 3.0, parallelism 1 (the plain form, one block after another).
  *
  * Two calls. Each ends with an answer, for any numbers and bytes given to it; nothing is asked beforehand
- * but what C asks of every pointer (see "Buffers" below). Look at the answer before anything else.
+ * but what "Buffers" below says. Look at the answer before anything else.
  *
  * WIDTHS           32-bit words    64-bit words
  *   width               32              64        given as a number; any other is answered 11
@@ -30,22 +30,25 @@
  *
  * SESSIONS
  *   Sealing and checking piece by piece is there for Rattle programs, and not for C. A session for a revision, with a
- *   note, has this header: the revision as eight bytes, the least first, and then the note (65,528 bytes at most).
- *   What is sealed with that header passes such a check, and what such a session sealed opens with it.
+ *   note, has this header: the revision as eight bytes, little-endian, and then the note (65,528 bytes at most).
+ *   What is sealed with that header passes such a check: its pieces are the note, the ciphertext and the trailer, and
+ *   its tag the last bytes of the sealed text. And what such a session sealed opens with that header.
  *
  * BUFFERS
- *   A pointer belongs to the length behind it. A null pointer with length 0 is an empty text.
+ *   A pointer belongs to the length behind it, and must be good for that many bytes; null is for length 0 alone,
+ *   and is then an empty text, out included. A pointer that is not good is not refused: no library can see it.
  *   out must not overlap any other buffer; the others may overlap each other, and none of them is written.
  *   While norx_open runs, out may hold bytes whose tag is not checked yet: let nobody read it before the answer.
  *   No call keeps anything between calls, or allocates; any number of threads may call at once, each with its own out.
  *
  * NAMES
- *   What the linker sees begins with norx_: it says what is done, and takes no other library's name. What the
+ *   What the linker sees begins with norx_, so that a call named open does not take the C library's place. What the
  *   preprocessor sees begins with JECZMILOT_: other implementations of NORX define NORX_.., and a file may include both.
  *
  * WHAT IT DOES NOT DO
  *   Whoever uses one nonce twice under one key loses secrecy: choose a nonce that was never used with that key.
- *   Nothing here resists an attacker who measures time. Keys are not stored, and not erased from memory.
+ *   An old text, given again whole, still opens. Tags are compared to the last byte, but nothing is promised
+ *   against an attacker who measures time. Keys are not stored, and not erased from memory.
  */
 #ifndef JECZMILOT_H
 #define JECZMILOT_H

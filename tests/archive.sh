@@ -1,5 +1,5 @@
 #!/bin/sh
-# Checks that the archive exports norx_seal and norx_open and nothing else:
+# Checks that the archive exports norx_seal and norx_open and needs memcpy and memset, and nothing else either way:
 #   tests/archive.sh [ARCHIVE]
 
 set -eu
@@ -19,4 +19,9 @@ if [ "$names" != "$expected" ]; then
     echo "expected are norx_open and norx_seal and nothing else" >&2
     exit 1
 fi
-echo "only norx_open and norx_seal are exported"
+needed=$($NM --undefined-only --format=posix "$archive" | awk '!/:$/ { print $1 }' | sort -u)
+if [ "$needed" != "$(printf 'memcpy\nmemset')" ]; then
+    echo "it needs $(echo $needed), and not memcpy and memset alone" >&2
+    exit 1
+fi
+echo "only norx_open and norx_seal are exported, and only memcpy and memset are needed"

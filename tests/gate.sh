@@ -1,6 +1,7 @@
 #!/bin/sh
 # The merge gate: rt ci, which proves everything from nothing, then the tests outside the proof on what it built.
-# The closing line has the numbers of both; a run that fails or ends without its numbers counts as one failure more.
+# The closing line adds up the numbers that each of the two closes with, in its log; a run that fails, or that ends without
+# its numbers, counts as one failure more.
 
 set -eu
 cd "$(dirname "$0")/.."
@@ -8,33 +9,29 @@ cd "$(dirname "$0")/.."
 passed=0
 failed=0
 numbers='^[0-9][0-9]* passed, [0-9][0-9]* failed$'
-log=$(mktemp)
-trap 'rm -f "$log" "$log.status"' EXIT
 
-# Runs a command, shows what it writes with its own closing line marked, and adds its numbers up.
-count() {
-    name=$1
+# Runs a command that leaves its log in a file, and adds up the numbers at the end of that file.
+count() { # LOG COMMAND..
+    log=$1
     shift
-    {
-        status=0
-        "$@" 2>&1 || status=$?
-        echo "$status" >"$log.status"
-    } | tee "$log" | sed -u -e "s/$numbers/($name) &/"
-    last=$(grep "$numbers" "$log" | tail -n 1)
+    rm -f "$log"
+    status=0
+    "$@" || status=$?
+    last=$(grep "$numbers" "$log" | tail -n 1) || true
     ok=${last%% passed*}
     bad=${last##*, }
     bad=${bad%% failed}
-    if [ -z "$last" ] || { [ "$(cat "$log.status")" -ne 0 ] && [ "$bad" -eq 0 ]; }; then
-        echo "($name) ended with status $(cat "$log.status") and ${last:-no numbers}"
+    if [ -z "$last" ] || { [ "$status" -ne 0 ] && [ "$bad" -eq 0 ]; }; then
+        echo "$* ended with status $status, and the closing line of $log is ${last:-not there}"
         bad=$((${bad:-0} + 1))
     fi
     passed=$((passed + ${ok:-0}))
     failed=$((failed + bad))
 }
 
-count "rt ci" tests/progress.sh ci
+count target/log/rt-ci.out tests/progress.sh ci
 echo
-count "outside the proof" tests/outside.sh
+count target/log/outside.out tests/outside.sh
 echo
 echo "$passed passed, $failed failed"
 [ "$failed" -eq 0 ]

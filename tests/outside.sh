@@ -1,5 +1,5 @@
 #!/bin/sh
-# The tests outside the proof, on the library that rt has proved: a line for each, and the closing line has the numbers.
+# The tests outside the proof, on the library that rt has proved: a line for each, and the numbers at the end and in target/log/outside.out.
 # What a test says is kept in target/log/outside-NAME.out. Its last line is shown; where it fails, or with V=1, all of it.
 
 set -eu
@@ -34,11 +34,13 @@ try() { # WHAT NAME COMMAND..
 
 echo "$left tests outside the proof. V=1 shows all that they say; target/log/outside-*.out has it."
 try "the narrow side from the wide side" twins tests/twins.sh
+try "every crate in the pictures" named tests/named.sh
 try "the C library" library rt staticlib jeczmilot
 try "what the archive exports" archive tests/archive.sh
 try "the header by itself" header tests/header.sh
 try "the rows on limits" limits tests/limits.sh
 try "the README's programs and story" readme tests/readme.sh
-try "beside an independent C code" differential tests/run.sh
-echo "$passed passed, $failed failed"
+try "beside an independent C code" differential tests/differential.sh
+echo "outside the proof: $passed passed, $failed failed"
+echo "$passed passed, $failed failed" >target/log/outside.out
 [ "$failed" -eq 0 ]

@@ -40,4 +40,9 @@ awk '/^```rust$/ { on = 1; next } /^```$/ { on = 0 } on' README.md >target/tests
 awk '/^\/\/ The key that both sides have/ { on = 1 } /^\/\/ Prints/ { exit } on' crates/example/src/main.rt | sed '$d' >target/tests/example.rt
 test -s target/tests/example.rt
 diff target/tests/readme.rt target/tests/example.rt
-echo "the README's Rattle code is that of the program example"
+case $(cat README.md) in
+*"
+$(sed 's/^/    /' crates/example/stdout)
+"*) echo "the README's Rattle code is that of the program example, and so is what it writes" ;;
+*) echo "what the program example writes is not in README.md" && exit 1 ;;
+esac

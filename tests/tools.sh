@@ -38,11 +38,16 @@ has_cross_tools() {
     is_there x86_64-linux-gnu-gcc && has_static_libc x86_64-linux-gnu-gcc && is_there qemu-x86_64
 }
 
+# Debian's gcc comes without the C library's headers.
+has_c() {
+    is_there cc && echo '#include <stdio.h>' | cc -E - >/dev/null 2>&1
+}
+
 CFLAGS="-std=c11 -O3 -Wall -Wextra"
 
 case $(uname -m) in
 x86_64)
-    is_there cc || install_packages gcc libc6-dev
+    has_c || install_packages gcc libc6-dev
     is_there pkg-config || install_packages pkg-config
     CC=cc
     NM='nm'

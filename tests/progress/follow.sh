@@ -90,7 +90,8 @@ follow() {
         "rt: target/staticlib/lib"*'.a has the functions of '*' that are marked #[no_mangle] pub extern "C"')
             pass_over_notes && done_with "${name##*/}" built "$(($(date +%s) - since)) s"
             ;;
-        "rt: "* | [0-9]*" passed, "[0-9]*" failed") show_line ;;
+        [0-9]*" passed, "[0-9]*" failed") show_notes && echo "rt $command: $line" ;;
+        "rt: "*) show_line ;;
         *) printf '%s\n' "$line" >>"$notes" ;;
         esac
     done

@@ -15,16 +15,16 @@ left w d = drop (fulls w d * rate w) d
 -- ---- The full blocks of a body, sealed and opened
 
 -- what an output then holds: their ciphertext, and behind it what it had
-abbrev pub sealedFulls : Width → ℕ → State → List ℕ → List ℕ → List ℕ
-sealedFulls w l s d out = cipherBlocks w l s d (fulls w d) ++ drop (fulls w d * rate w) out
+abbrev pub cipherFulls : Width → ℕ → State → List ℕ → List ℕ → List ℕ
+cipherFulls w l s d out = cipherBlocks w l s d (fulls w d) ++ drop (fulls w d * rate w) out
 
 -- what an output then holds: their message, and behind it what it had
-abbrev pub openedFulls : Width → ℕ → State → List ℕ → List ℕ → List ℕ
-openedFulls w l s c out = messageBlocks w l s c (fulls w c) ++ drop (fulls w c * rate w) out
+abbrev pub messageFulls : Width → ℕ → State → List ℕ → List ℕ → List ℕ
+messageFulls w l s c out = messageBlocks w l s c (fulls w c) ++ drop (fulls w c * rate w) out
 
 -- the state once it took in that message
-abbrev pub afterOpenedFulls : Width → ℕ → State → List ℕ → State
-afterOpenedFulls w l s c = afterBlocks w l bodyMark s (messageBlocks w l s c (fulls w c)) (fulls w c)
+abbrev pub afterMessageFulls : Width → ℕ → State → List ℕ → State
+afterMessageFulls w l s c = afterBlocks w l bodyMark s (messageBlocks w l s c (fulls w c)) (fulls w c)
 
 -- ---- The bytes left, x
 
@@ -33,8 +33,8 @@ abbrev pub afterLeft : Width → ℕ → ℕ → State → List ℕ → State
 afterLeft w l m s x = xorBlock w (entered w l m s) (padded (rate w) x)
 
 -- their ciphertext, and the message that they are the ciphertext of
-abbrev pub sealedLeft : Width → ℕ → State → List ℕ → List ℕ
-sealedLeft w l s x = take (length x) (rateOf w (afterLeft w l bodyMark s x))
+abbrev pub cipherLeft : Width → ℕ → State → List ℕ → List ℕ
+cipherLeft w l s x = take (length x) (rateOf w (afterLeft w l bodyMark s x))
 
-abbrev pub openedLeft : Width → ℕ → State → List ℕ → List ℕ
-openedLeft w l s x = xors (take (length x) (rateOf w (entered w l bodyMark s))) x
+abbrev pub messageLeft : Width → ℕ → State → List ℕ → List ℕ
+messageLeft w l s x = xors (take (length x) (rateOf w (entered w l bodyMark s))) x

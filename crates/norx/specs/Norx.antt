@@ -245,7 +245,7 @@ cipherBlocks w l s d (suc i) = cipherBlocks w l s d i ++ take (length (run (rate
 unfoldable pub ciphertext : Width → ℕ → State → List ℕ → List ℕ
 ciphertext w l s d = cipherBlocks w l s d (blockCount (rate w) (length d))
 
--- 5. Finish: xor 08 into s15, P, key into s12..s15, P, key into s12..s15. The tag is s12..s15, of which it is the first t bits.
+-- 5. Finish: xor 08 into s15, P, key into s12..s15, P, key into s12..s15. The tag is s12..s15: the first t bits of them.
 unfoldable pub finished : Width → ℕ → List ℕ → State → State
 finished w l k s = keyed k (P w l (keyed k (P w l (marked tagMark s))))
 

@@ -14,9 +14,9 @@ put l a ys n = take a l ++ (ys ++ drop n (drop a l))
 
 -- ---- One block b, at a state e to which its mark and P are done
 
--- the state that took it in: as it is or, in opening, as the message of the ciphertext that it is
-abbrev pub afterBlock : Width → Bool → State → List ℕ → State
-afterBlock w opening e b = cond opening (xorBlock w e (xors (rateOf w e) b)) (xorBlock w e b)
+-- the state with it taken in: as it is or, in opening, as the message of the ciphertext that it is
+abbrev pub withBlock : Width → Bool → State → List ℕ → State
+withBlock w opening e b = cond opening (xorBlock w e (xors (rateOf w e) b)) (xorBlock w e b)
 
 -- what it gives, either way: the rate xored with it
 abbrev pub shownBlock : Width → State → List ℕ → List ℕ
@@ -30,7 +30,7 @@ shownAt w writing out at e b = cond writing (put out at (shownBlock w e b) (rate
 
 unfoldable pub afterTurns : Width → ℕ → ℕ → Bool → State → List ℕ → ℕ → State
 afterTurns w l m opening s d zero = s
-afterTurns w l m opening s d (suc i) = afterBlock w opening (entered w l m (afterTurns w l m opening s d i)) (run (rate w) i d)
+afterTurns w l m opening s d (suc i) = withBlock w opening (entered w l m (afterTurns w l m opening s d i)) (run (rate w) i d)
 
 unfoldable pub shown : Width → ℕ → ℕ → Bool → State → List ℕ → ℕ → List ℕ
 shown w l m opening s d zero = []
@@ -38,9 +38,9 @@ shown w l m opening s d (suc i) = shown w l m opening s d i ++ shownBlock w (ent
 
 -- ---- All of them
 
-abbrev pub turned : Width → ℕ → ℕ → Bool → State → List ℕ → State
-turned w l m opening s d = afterTurns w l m opening s d (fulls w d)
+abbrev pub afterAllTurns : Width → ℕ → ℕ → Bool → State → List ℕ → State
+afterAllTurns w l m opening s d = afterTurns w l m opening s d (fulls w d)
 
 -- what an output as long as the text then holds: what they give, and behind it what it had; an output of another length stays as it was
-abbrev pub turnedOut : Width → ℕ → ℕ → Bool → State → List ℕ → List ℕ → List ℕ
-turnedOut w l m opening s d out = cond (eqb (length out) (length d)) (shown w l m opening s d (fulls w d) ++ drop (fulls w d * rate w) out) out
+abbrev pub outAfterTurns : Width → ℕ → ℕ → Bool → State → List ℕ → List ℕ → List ℕ
+outAfterTurns w l m opening s d out = cond (eqb (length out) (length d)) (shown w l m opening s d (fulls w d) ++ drop (fulls w d * rate w) out) out

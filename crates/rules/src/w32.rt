@@ -5,6 +5,7 @@ pub type Row = [Word; 4];
 
 pub type State = [Row; 4];
 
+// The bits of a word, as rotation counts them.
 pub const WORD_BITS: u32 = 32;
 
 // The words of a start: the width in bits, the parallelism, and the tag bits.

@@ -15,7 +15,7 @@ use Rattle.places.specs.declared.Place.{Place}
 use Rattle.places.specs.Places.{soundOf, pieceAnswer, closeAnswer}
 use Rattle.session.specs.Sessions.{exactOf, Kind, closedOf, tagLength, pieceAnswerOf, pieceOf, pieceOut, closeAnswerOf, closeOf, closeTag}
 use Rattle.session.specs.Offered.{Piece, callOf, isAccepted, afterPiece, afterAll, accepted, wrote, wroteAll}
-use Rattle.session.specs.Promises.{RefusedNothing, WithoutRefused}
+use Rattle.session.specs.Promises.{RefusalChangesNothing, WithoutRefused}
 
 -- a kind is lawful where what it puts together it takes apart again
 pub record Lawful (K : Kind) : Type 0 where
@@ -42,9 +42,9 @@ module _ (K : Kind) (L : Lawful K) where
   unfolding pieceOf
   refused-session s q h = L .stepped _ _ ∙ cond-false _ _ _ (sym (accepted-answer s q) ∙ h)
 
-  pub refused-nothing : RefusedNothing K
+  pub refusal-changes-nothing : RefusalChangesNothing K
   unfolding pieceOut
-  refused-nothing s q h = (refused-session s q h, cond-false _ _ _ (sym (accepted-answer s q) ∙ h))
+  refusal-changes-nothing s q h = (refused-session s q h, cond-false _ _ _ (sym (accepted-answer s q) ∙ h))
 
   session-without : (qs : List Piece) (s : K .Session) → afterAll K s qs ≡ afterAll K s (accepted K s qs)
   session-without [] s = refl

@@ -78,8 +78,8 @@ module _ (K : Kind) where
       → (tag : List ℕ) → length tag ≡ tagLength K → ChecksAsOne K key nonce T qs tag
 
   -- a refused piece changes no session and no output, of any session at all
-  abbrev pub RefusedNothing : Type 0
-  RefusedNothing =
+  abbrev pub RefusalChangesNothing : Type 0
+  RefusalChangesNothing =
       (s : K .Session) (q : Piece) → isAccepted K s q ≡ false → (afterPiece K s q ≡ s) × (pieceOut K s (q .label) (q .bytes) (q .out) ≡ q .out)
 
   -- a list with refused pieces gives what the list without them gives

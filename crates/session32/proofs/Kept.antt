@@ -2,8 +2,8 @@
 -- Assumes nothing.
 use mathlib.Core.Path.{refl}
 use Rattle.session32.specs.Kinds.{sealing32, checking32}
-use Rattle.session.specs.Promises.{OneSession, Alike, OneSealing, OneOpening, RefusedNothing, WithoutRefused}
-use Rattle.session.proofs.Refused.{Lawful, refused-nothing, without-refused}
+use Rattle.session.specs.Promises.{OneSession, Alike, OneSealing, OneOpening, RefusalChangesNothing, WithoutRefused}
+use Rattle.session.proofs.Refused.{Lawful, refusal-changes-nothing, without-refused}
 use Rattle.session.proofs.Demand.{one-session, alike, one-sealing, one-opening}
 
 lawful-sealing32 : Lawful sealing32
@@ -18,8 +18,8 @@ sealing32-alike = alike sealing32 lawful-sealing32
 pub sealing32-one-sealing : OneSealing sealing32
 sealing32-one-sealing = one-sealing sealing32 lawful-sealing32 refl
 
-pub sealing32-refused : RefusedNothing sealing32
-sealing32-refused = refused-nothing sealing32 lawful-sealing32
+pub sealing32-refused : RefusalChangesNothing sealing32
+sealing32-refused = refusal-changes-nothing sealing32 lawful-sealing32
 
 pub sealing32-without : WithoutRefused sealing32
 sealing32-without = without-refused sealing32 lawful-sealing32
@@ -36,8 +36,8 @@ checking32-alike = alike checking32 lawful-checking32
 pub checking32-one-opening : OneOpening checking32
 checking32-one-opening = one-opening checking32 lawful-checking32 refl
 
-pub checking32-refused : RefusedNothing checking32
-checking32-refused = refused-nothing checking32 lawful-checking32
+pub checking32-refused : RefusalChangesNothing checking32
+checking32-refused = refusal-changes-nothing checking32 lawful-checking32
 
 pub checking32-without : WithoutRefused checking32
 checking32-without = without-refused checking32 lawful-checking32

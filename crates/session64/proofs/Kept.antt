@@ -2,8 +2,8 @@
 -- Assumes nothing.
 use mathlib.Core.Path.{refl}
 use Rattle.session64.specs.Kinds.{sealing64, checking64}
-use Rattle.session.specs.Promises.{OneSession, Alike, OneSealing, OneOpening, RefusedNothing, WithoutRefused}
-use Rattle.session.proofs.Refused.{Lawful, refused-nothing, without-refused}
+use Rattle.session.specs.Promises.{OneSession, Alike, OneSealing, OneOpening, RefusalChangesNothing, WithoutRefused}
+use Rattle.session.proofs.Refused.{Lawful, refusal-changes-nothing, without-refused}
 use Rattle.session.proofs.Demand.{one-session, alike, one-sealing, one-opening}
 
 lawful-sealing64 : Lawful sealing64
@@ -18,8 +18,8 @@ sealing64-alike = alike sealing64 lawful-sealing64
 pub sealing64-one-sealing : OneSealing sealing64
 sealing64-one-sealing = one-sealing sealing64 lawful-sealing64 refl
 
-pub sealing64-refused : RefusedNothing sealing64
-sealing64-refused = refused-nothing sealing64 lawful-sealing64
+pub sealing64-refused : RefusalChangesNothing sealing64
+sealing64-refused = refusal-changes-nothing sealing64 lawful-sealing64
 
 pub sealing64-without : WithoutRefused sealing64
 sealing64-without = without-refused sealing64 lawful-sealing64
@@ -36,8 +36,8 @@ checking64-alike = alike checking64 lawful-checking64
 pub checking64-one-opening : OneOpening checking64
 checking64-one-opening = one-opening checking64 lawful-checking64 refl
 
-pub checking64-refused : RefusedNothing checking64
-checking64-refused = refused-nothing checking64 lawful-checking64
+pub checking64-refused : RefusalChangesNothing checking64
+checking64-refused = refusal-changes-nothing checking64 lawful-checking64
 
 pub checking64-without : WithoutRefused checking64
 checking64-without = without-refused checking64 lawful-checking64

@@ -61,7 +61,7 @@ pub(crate) fn flat(s: State) -> [Word; 16]
 }
 
 // The state that a session starts with: the front stands before its note.
-pub(crate) fn fresh(terms: Terms, key: Row, nonce: &[u8]) -> State
+pub(crate) fn fresh_state(terms: Terms, key: Row, nonce: &[u8]) -> State
     requires { ⌜ length (now nonce) ≡ rowBytes word64 ⌝ }
     ensures { λ r. ⌜ r ≡ freshState word64 (tagBits word64) terms key (rowOf word64 (was nonce)) ⌝ }
 {

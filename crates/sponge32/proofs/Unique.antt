@@ -24,9 +24,9 @@ use Rattle.sponge32.proofs.pieces.end.Reads.{Post as Post-pieces-end}
 use Rattle.sponge32.proofs.pieces.seal.{signature as signature-pieces-seal}
 use Rattle.sponge32.proofs.pieces.seal.Kinds as kinds-pieces-seal
 use Rattle.sponge32.proofs.pieces.seal.Reads.{Post as Post-pieces-seal}
-use Rattle.sponge32.proofs.pieces.check.{signature as signature-pieces-check}
-use Rattle.sponge32.proofs.pieces.check.Kinds as kinds-pieces-check
-use Rattle.sponge32.proofs.pieces.check.Reads.{Post as Post-pieces-check}
+use Rattle.sponge32.proofs.pieces.open.{signature as signature-pieces-open}
+use Rattle.sponge32.proofs.pieces.open.Kinds as kinds-pieces-open
+use Rattle.sponge32.proofs.pieces.open.Reads.{Post as Post-pieces-open}
 
 pub one-absorb : (κs : Lfts 1) (a : ArgsD signature-parts-absorb κs) (r r′ : ResD signature-parts-absorb κs) (s s′ : AtExit (endedOf 1 kinds-parts-absorb.ps kinds-parts-absorb.r) κs)
     → Post-parts-absorb κs a r s → Post-parts-absorb κs a r′ s′ → r ≡ r′
@@ -52,6 +52,6 @@ pub one-seal : (κs : Lfts 2) (a : ArgsD signature-pieces-seal κs) (r r′ : Re
     → Post-pieces-seal κs a r s → Post-pieces-seal κs a r′ s′ → (r ≡ r′) × (now (s .1 .1 .1 .1 .0) ≡ now (s′ .1 .1 .1 .1 .0))
 one-seal κs a r r′ s s′ p q = (p .0 ∙ sym (q .0), p .1 ∙ sym (q .1))
 
-pub one-check : (κs : Lfts 1) (a : ArgsD signature-pieces-check κs) (r r′ : ResD signature-pieces-check κs) (s s′ : AtExit (endedOf 1 kinds-pieces-check.ps kinds-pieces-check.r) κs)
-    → Post-pieces-check κs a r s → Post-pieces-check κs a r′ s′ → r ≡ r′
-one-check κs a r r′ s s′ p q = p ∙ sym q
+pub one-open : (κs : Lfts 1) (a : ArgsD signature-pieces-open κs) (r r′ : ResD signature-pieces-open κs) (s s′ : AtExit (endedOf 1 kinds-pieces-open.ps kinds-pieces-open.r) κs)
+    → Post-pieces-open κs a r s → Post-pieces-open κs a r′ s′ → r ≡ r′
+one-open κs a r r′ s s′ p q = p ∙ sym q

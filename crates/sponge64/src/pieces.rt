@@ -165,7 +165,7 @@ pub fn seal(s: State, rounds: u32, n: usize, d: &[u8], out: &mut [u8]) -> State
 }
 
 // Ciphertext that goes on in a block: its message is taken in.
-fn check_filling(s: State, rounds: u32, j: usize, c: &[u8]) -> State
+fn open_filling(s: State, rounds: u32, j: usize, c: &[u8]) -> State
     requires { ⌜ (j + length (now c) ≤ rate word64) × (0 < length (now c) → 0 < j) ⌝ }
     ensures { λ q. ⌜ q ≡ fed word64 rounds bodyMark s j (unfed word64 rounds s j (was c)) ⌝ }
 {
@@ -179,7 +179,7 @@ fn check_filling(s: State, rounds: u32, j: usize, c: &[u8]) -> State
     xor_block(s, &p)
 }
 
-fn check_left(s: State, rounds: u32, left: &[u8]) -> State
+fn open_left(s: State, rounds: u32, left: &[u8]) -> State
     requires { ⌜ length (now left) < rate word64 ⌝ }
     ensures { λ q. ⌜ q ≡ fed word64 rounds bodyMark s 0 (unfed word64 rounds s 0 (was left)) ⌝ }
 {
@@ -194,19 +194,19 @@ fn check_left(s: State, rounds: u32, left: &[u8]) -> State
     xor_block(e, &p)
 }
 
-fn check_aligned(s: State, rounds: u32, c: &[u8]) -> State
+fn open_aligned(s: State, rounds: u32, c: &[u8]) -> State
     ensures { λ q. ⌜ q ≡ fed word64 rounds bodyMark s 0 (unfed word64 rounds s 0 (was c)) ⌝ }
 {
     let at = c.len() / RATE * RATE;
     let t = unwritten(s, rounds, BODY_MARK, OPENING, c);
-    check_left(t, rounds, &c[at..])
+    open_left(t, rounds, &c[at..])
 }
 
 // A piece of a body's ciphertext: its message is taken in, and nothing is written.
-pub fn check(s: State, rounds: u32, n: usize, c: &[u8]) -> State
+pub fn open(s: State, rounds: u32, n: usize, c: &[u8]) -> State
     ensures { λ q. ⌜ q ≡ fed word64 rounds bodyMark s n (unfed word64 rounds s n (was c)) ⌝ }
 {
     let j = n % RATE;
     let k = filling(j, c.len());
-    check_aligned(check_filling(s, rounds, j, &c[0..k]), rounds, &c[k..])
+    open_aligned(open_filling(s, rounds, j, &c[0..k]), rounds, &c[k..])
 }

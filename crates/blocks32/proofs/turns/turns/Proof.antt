@@ -10,11 +10,11 @@ use Rattle.blocks32.proofs.turns.turns.Tie as tie
 
 returns : tie.Need-returns
 returns c =
-    let turned = c .before .before in
-    let start = turned .before .before .before .before in
+    let afterAllTurns = c .before .before in
+    let start = afterAllTurns .before .before .before .before in
     let x = start .args in
     let s = shaped-whole word32 (x .s) (whole-owned word32 (x .s) _ (start .good .0)) in
-    (turned .turns-keyed .ensures .0 ∙ unkeyed _ (shaped-turns word32 (x .rounds) (x .m) (x .opening) (x .s) (x .d .now) _ s), turned .turns-keyed .ensures .1)
+    (afterAllTurns .turns-keyed .ensures .0 ∙ unkeyed _ (shaped-turns word32 (x .rounds) (x .m) (x .opening) (x .s) (x .d .now) _ s), afterAllTurns .turns-keyed .ensures .1)
 
 pub turns-spec : {M : Type 1} → statement M
 turns-spec = tie.close (tie.spec (λ c κs. search needs) (λ c. search needs) returns)

@@ -22,7 +22,7 @@ returns-2 c =
     let ready = told .before .before in
     let rank = ready .before in
     let x = rank .before .before .args in
-    taken-at-of word64 (x .p) (x .part) Body (x .bytes .now) (x .s) (told .enum-told2 .given .1) (rank .rank .ensures) (ready .readied .ensures) checking (c .check .ensures)
+    taken-at-of word64 (x .p) (x .part) Body (x .bytes .now) (x .s) (told .enum-told2 .given .1) (rank .rank .ensures) (ready .readied .ensures) checking (c .open .ensures)
 
 returns-3 : tie.Need-returns-3
 returns-3 c =

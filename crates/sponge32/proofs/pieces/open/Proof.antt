@@ -1,4 +1,4 @@
--- `sponge32::pieces::check`: the bytes that go on in a block, and the rest.
+-- `sponge32::pieces::open`: the bytes that go on in a block, and the rest.
 -- Assumes nothing.
 use borrow.Author.Needs.{needs}
 use mathlib.Core.Path.{ap}
@@ -10,11 +10,11 @@ use lib.Seq.{length-take-le}
 use Rattle.norx.specs.Norx.{word32}
 use Rattle.norx.proofs.Slices.{tail}
 use Rattle.norx.proofs.Unfed.{checked-piece}
-use Rattle.sponge32.proofs.pieces.check.Statement.{statement}
-use Rattle.sponge32.proofs.pieces.check.Tie as tie
+use Rattle.sponge32.proofs.pieces.open.Statement.{statement}
+use Rattle.sponge32.proofs.pieces.open.Tie as tie
 
-check-filling-requires : tie.Need-check-filling-requires
-check-filling-requires c κs =
+open-filling-requires : tie.Need-open-filling-requires
+open-filling-requires c κs =
     let k = c .before .filling .result in
     let t = c .before .before .before .args .c .now in
     let e = c .before .filling .ensures in
@@ -29,11 +29,11 @@ returns c =
     let t = x .c .now in
     let k = filling .filling .result in
     checked-piece word32 (x .rounds) (x .s) (x .n) k t (filling .filling .ensures .0) (filling .filling .ensures .3) (ap (λ (i : ℕ). take i t) (sub-zero k)) (tail k t)
-    (first .check-filling .ensures) (c .check-aligned .ensures)
+    (first .open-filling .ensures) (c .open-aligned .ensures)
 
-pub check-spec : {M : Type 1} → statement M
-check-spec =
+pub open-spec : {M : Type 1} → statement M
+open-spec =
     tie.close
     (tie.spec
-    (λ c κs. search needs) (λ c. search needs) (λ c. search needs) (λ c. search needs) check-filling-requires (λ c. search needs)
+    (λ c κs. search needs) (λ c. search needs) (λ c. search needs) (λ c. search needs) open-filling-requires (λ c. search needs)
     (λ c. search needs) (λ c. search needs) (λ c κs. search needs) returns)

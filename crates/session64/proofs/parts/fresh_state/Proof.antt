@@ -1,10 +1,10 @@
--- `session64::parts::fresh`: the state of a key and a nonce, with the front ahead of the note.
+-- `session64::parts::fresh_state`: the state of a key and a nonce, with the front ahead of the note.
 -- Assumes nothing.
 use Rattle.norx.specs.Norx.{word64, tagBits}
 use Rattle.session.proofs.Parts.{fresh-of}
 use borrow.Author.Needs.{needs}
-use Rattle.session64.proofs.parts.fresh.Statement.{statement}
-use Rattle.session64.proofs.parts.fresh.Tie as tie
+use Rattle.session64.proofs.parts.fresh_state.Statement.{statement}
+use Rattle.session64.proofs.parts.fresh_state.Tie as tie
 
 returns : tie.Need-returns
 returns c =
@@ -14,5 +14,5 @@ returns c =
     fresh-of word64 (tagBits word64) (x .terms) (x .key) (x .nonce .now) (front .before .before .pre)
     (front .front .ensures) (start .before .row .ensures) (start .start .ensures) (c .feed .ensures)
 
-pub fresh-spec : {M : Type 1} → statement M
-fresh-spec = tie.close (tie.spec (λ c κs. search needs) (λ c κs. search needs) (λ c κs. search needs) (λ c. search needs) (λ c κs. search needs) returns)
+pub fresh-state-spec : {M : Type 1} → statement M
+fresh-state-spec = tie.close (tie.spec (λ c κs. search needs) (λ c κs. search needs) (λ c κs. search needs) (λ c. search needs) (λ c κs. search needs) returns)

@@ -1,17 +1,17 @@
--- `sponge64::pieces::check_filling`: nothing of no bytes, else the message at its place.
+-- `sponge32::pieces::open_filling`: nothing of no bytes, else the message at its place.
 -- Assumes nothing.
 use borrow.Author.Needs.{needs}
 use lib.ListN.{length}
-use Rattle.norx.specs.Norx.{word64, rate}
+use Rattle.norx.specs.Norx.{word32, rate}
 use Rattle.norx.proofs.Slices.{cut}
 use Rattle.norx.proofs.Unfed.{checked-none, checked-filling}
-use Rattle.sponge64.proofs.pieces.check_filling.Statement.{statement}
-use Rattle.sponge64.proofs.pieces.check_filling.Tie as tie
+use Rattle.sponge32.proofs.pieces.open_filling.Statement.{statement}
+use Rattle.sponge32.proofs.pieces.open_filling.Tie as tie
 
 returns : tie.Need-returns
 returns c =
     let x = c .before .before .args in
-    checked-none word64 (x .rounds) (x .s) (x .j) (x .c .now) (c .if1 .taken)
+    checked-none word32 (x .rounds) (x .s) (x .j) (x .c .now) (c .if1 .taken)
 
 returns-2 : tie.Need-returns-2
 returns-2 c =
@@ -23,12 +23,12 @@ returns-2 c =
     let start = known .before in
     let x = start .args in
     let t = x .c .now in
-    checked-filling word64 (x .rounds) (x .s) (x .j) t (start .pre .1) (test .if1 .left) (start .pre .0) (λ i. known .shared-slice-known .given i .fits)
+    checked-filling word32 (x .rounds) (x .s) (x .j) t (start .pre .1) (test .if1 .left) (start .pre .0) (λ i. known .shared-slice-known .given i .fits)
     (first .placed .ensures) (rate .before .xor-block .ensures) (rate .rate-bytes .ensures) (cut (length t) (x .j) (rate .rate-bytes .result)) (second .placed2 .ensures)
     (c .xor-block2 .ensures)
 
-pub check-filling-spec : {M : Type 1} → statement M
-check-filling-spec =
+pub open-filling-spec : {M : Type 1} → statement M
+open-filling-spec =
     tie.close
     (tie.spec
     returns (λ c κs. search needs) (λ c. search needs) (λ c κs. search needs) (λ c κs. search needs) (λ c. search needs) (λ c. search needs)

@@ -1,6 +1,6 @@
 #!/bin/sh
 # Builds the differential test with the archive and runs it:
-#   tests/run.sh [ARCHIVE] [--only NAME | --case NUMBER] [--seed NUMBER]
+#   tests/differential.sh [ARCHIVE] [--only NAME | --case NUMBER] [--seed NUMBER]
 
 set -eu
 . "$(dirname "$0")/place.sh"

@@ -1,16 +1,16 @@
--- `sponge64::pieces::check_aligned`: the full blocks, and the bytes left.
+-- `sponge32::pieces::open_aligned`: the full blocks, and the bytes left.
 -- Assumes nothing.
 use borrow.Author.Needs.{needs}
 use mathlib.Core.Path.{_∙_}
 use Prim.Native.Nat.{_*_, _/_}
 use native.Mathlib.Omega.{arith}
 use lib.ListN.{length}
-use Rattle.norx.specs.Norx.{word64, rate}
+use Rattle.norx.specs.Norx.{word32, rate}
 use Rattle.norx.proofs.Slices.{tail}
 use Rattle.norx.proofs.Turns.{turns-opened}
 use Rattle.norx.proofs.Unfed.{checked-aligned}
-use Rattle.sponge64.proofs.pieces.check_aligned.Statement.{statement}
-use Rattle.sponge64.proofs.pieces.check_aligned.Tie as tie
+use Rattle.sponge32.proofs.pieces.open_aligned.Statement.{statement}
+use Rattle.sponge32.proofs.pieces.open_aligned.Tie as tie
 
 returns : tie.Need-returns
 returns c =
@@ -18,11 +18,11 @@ returns c =
     let known = full .before in
     let x = known .before .args in
     let t = x .c .now in
-    checked-aligned word64 (x .rounds) (x .s) t (λ i. known .shared-slice-known .given i .fits)
-    (full .unwritten .ensures ∙ turns-opened word64 (x .rounds) (x .s) t (length t / rate word64) (omega arith)) (tail (length t / rate word64 * rate word64) t) (c .check-left .ensures)
+    checked-aligned word32 (x .rounds) (x .s) t (λ i. known .shared-slice-known .given i .fits)
+    (full .unwritten .ensures ∙ turns-opened word32 (x .rounds) (x .s) t (length t / rate word32) (omega arith)) (tail (length t / rate word32 * rate word32) t) (c .open-left .ensures)
 
-pub check-aligned-spec : {M : Type 1} → statement M
-check-aligned-spec =
+pub open-aligned-spec : {M : Type 1} → statement M
+open-aligned-spec =
     tie.close
     (tie.spec
     (λ c. search needs) (λ c κs. search needs) (λ c. search needs) (λ c. search needs) (λ c. search needs)
