@@ -12,7 +12,8 @@ returns c =
     let body = trailer .before .before in
     let note = body .before .before .before in
     let x = note .before .args in
-    readied-of word32 (x .p) (x .next) (x .s) (note .ends .ensures) (body .before .end-if .ensures) (body .ends2 .ensures) (trailer .before .end-if2 .ensures) (trailer .ends3 .ensures) (c .end-if3 .ensures)
+    readied-of word32 (x .p) (x .next) (x .s) (note .ends .ensures) (body .before .end-if .ensures)
+    (body .ends2 .ensures) (trailer .before .end-if2 .ensures) (trailer .ends3 .ensures) (c .end-if3 .ensures)
 
 pub readied-spec : {M : Type 1} → statement M
 readied-spec = tie.close (tie.spec (λ c κs. search needs) (λ c. search needs) (λ c κs. search needs) (λ c κs. search needs) (λ c κs. search needs) (λ c κs. search needs) (λ c κs. search needs) returns)

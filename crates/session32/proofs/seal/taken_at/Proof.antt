@@ -13,8 +13,10 @@ returns c =
     let told = c .before .before in
     let ready = told .before .before in
     let rank = ready .before in
-    let x = rank .before .before .before .args in
-    (taken-at-of word32 (x .p) (x .part) Note (x .bytes .now) (x .s) (told .enum-told .given .1) (rank .rank .ensures) (ready .readied .ensures) sealing (c .feed .ensures), rw (told .enum-told .given .1))
+    let x = rank .before .before .before .args in (
+      taken-at-of word32 (x .p) (x .part) Note (x .bytes .now) (x .s) (told .enum-told .given .1) (rank .rank .ensures) (ready .readied .ensures) sealing (c .feed .ensures),
+      rw (told .enum-told .given .1),
+    )
 
 returns-2 : tie.Need-returns-2
 returns-2 c =
@@ -23,16 +25,22 @@ returns-2 c =
     let ready = told .before .before in
     let rank = ready .before in
     let start = rank .before .before .before in
-    let x = start .args in
-    (sealed-taken-at word32 (x .p) (x .part) (x .bytes .now) (x .out .now) (x .s) (told .enum-told2 .given .1) (rank .rank .ensures) (ready .readied .ensures) (start .pre .fits) (seal .seal .ensures .0), sealed-wrote word32 (x .p) (x .part) (x .bytes .now) (x .out .now) (x .s) (told .enum-told2 .given .1) (rank .rank .ensures) (ready .readied .ensures) (start .pre .fits) (seal .seal .ensures .1))
+    let x = start .args in (
+      sealed-taken-at word32 (x .p) (x .part) (x .bytes .now) (x .out .now) (x .s) (told .enum-told2 .given .1) (rank .rank .ensures) (ready .readied .ensures) (start .pre .fits)
+          (seal .seal .ensures .0),
+      sealed-wrote word32 (x .p) (x .part) (x .bytes .now) (x .out .now) (x .s) (told .enum-told2 .given .1) (rank .rank .ensures) (ready .readied .ensures) (start .pre .fits)
+          (seal .seal .ensures .1),
+    )
 
 returns-3 : tie.Need-returns-3
 returns-3 c =
     let told = c .before in
     let ready = told .before .before in
     let rank = ready .before in
-    let x = rank .before .before .before .args in
-    (taken-at-of word32 (x .p) (x .part) Trailer (x .bytes .now) (x .s) (told .enum-told3 .given .1) (rank .rank .ensures) (ready .readied .ensures) sealing (c .feed2 .ensures), rw (told .enum-told3 .given .1))
+    let x = rank .before .before .before .args in (
+      taken-at-of word32 (x .p) (x .part) Trailer (x .bytes .now) (x .s) (told .enum-told3 .given .1) (rank .rank .ensures) (ready .readied .ensures) sealing (c .feed2 .ensures),
+      rw (told .enum-told3 .given .1),
+    )
 
 pub taken-at-spec : {M : Type 1} → statement M
 taken-at-spec = tie.close (tie.spec (λ c κs. search needs) (λ c κs. search needs) (λ c. search needs) (λ c. search needs) (λ c κs. search needs) (λ c. search needs) (λ c κs. search needs) (λ c. search needs) (λ c κs. search needs) returns (λ c. search needs) returns-2 returns-3)

@@ -71,8 +71,10 @@ returns c =
       rows-is = rows .rows .ensures;
       tag-is = own .own-tag .ensures;
     } in
-    let copied = copied-over _ (x .tag .now) (own-long word32 _ _ _ (x .tag .now) (own .own-tag .ensures) long) (copy .copy .ensures .1) in
-    (close-done sealing32 (x .self) (x .edition) (x .tag .now) found (if1 .if1 .taken) made _ _ refl (c .closed .ensures), copied ∙ close-tag sealing32 (x .self) (x .edition) (x .tag .now) found (if1 .if1 .taken) made)
+    let copied = copied-over _ (x .tag .now) (own-long word32 _ _ _ (x .tag .now) (own .own-tag .ensures) long) (copy .copy .ensures .1) in (
+      close-done sealing32 (x .self) (x .edition) (x .tag .now) found (if1 .if1 .taken) made _ _ refl (c .closed .ensures),
+      copied ∙ close-tag sealing32 (x .self) (x .edition) (x .tag .now) found (if1 .if1 .taken) made,
+    )
 
 returns-2 : tie.Need-returns-2
 returns-2 c =
@@ -87,8 +89,10 @@ returns-2 c =
       place-is = place .place .ensures;
       answer-is = answer .close-answer .ensures;
       done-is = done .done .ensures;
-    } in
-    (close-kept sealing32 (x .self) (x .edition) (x .tag .now) found (c .if1 .left), close-left sealing32 (x .self) (x .edition) (x .tag .now) found (c .if1 .left))
+    } in (
+      close-kept sealing32 (x .self) (x .edition) (x .tag .now) found (c .if1 .left),
+      close-left sealing32 (x .self) (x .edition) (x .tag .now) found (c .if1 .left),
+    )
 
 pub close-spec : {M : Type 1} → statement M
 close-spec = tie.close (tie.spec (λ c κs. search needs) (λ c κs. search needs) (λ c κs. search needs) (λ c κs. search needs) own-tag-requires (λ c. search needs) copy-requires (λ c κs. search needs) (λ c. search needs) returns returns-2)

@@ -55,8 +55,10 @@ returns c =
       state-is = taken-in .taken-at .ensures .0;
       place-is = c .before .after .ensures;
       session-is = c .made .ensures;
-    } in
-    (piece-taken sealing32 (x .self) (x .label) (x .bytes .now) (x .out .now) found (if1 .if1 .taken) made, piece-wrote sealing32 (x .self) (x .label) (x .bytes .now) (x .out .now) found (if1 .if1 .taken) _ _ (rows .rows .ensures) (taken-in .taken-at .ensures .1))
+    } in (
+      piece-taken sealing32 (x .self) (x .label) (x .bytes .now) (x .out .now) found (if1 .if1 .taken) made,
+      piece-wrote sealing32 (x .self) (x .label) (x .bytes .now) (x .out .now) found (if1 .if1 .taken) _ _ (rows .rows .ensures) (taken-in .taken-at .ensures .1),
+    )
 
 returns-2 : tie.Need-returns-2
 returns-2 c =
@@ -74,8 +76,10 @@ returns-2 c =
       exact-is = exact .exact .ensures;
       answer-is = answer .piece-answer .ensures;
       done-is = done .done .ensures;
-    } in
-    (piece-kept sealing32 (x .self) (x .label) (x .bytes .now) (x .out .now) found (c .if1 .left), piece-left sealing32 (x .self) (x .label) (x .bytes .now) (x .out .now) found (c .if1 .left))
+    } in (
+      piece-kept sealing32 (x .self) (x .label) (x .bytes .now) (x .out .now) found (c .if1 .left),
+      piece-left sealing32 (x .self) (x .label) (x .bytes .now) (x .out .now) found (c .if1 .left),
+    )
 
 pub piece-spec : {M : Type 1} → statement M
 piece-spec = tie.close (tie.spec (λ c κs. search needs) (λ c κs. search needs) (λ c κs. search needs) (λ c κs. search needs) (λ c κs. search needs) taken-at-requires (λ c κs. search needs) (λ c κs. search needs) (λ c. search needs) returns returns-2)
