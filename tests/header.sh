@@ -1,6 +1,6 @@
 #!/bin/sh
 # The header by itself: strict C takes it; an answer that is not looked at is refused where the warning is an error,
-# and taken where the macro of that warning is empty; and the version in the pkg-config file is the header's.
+# and taken where the macro of that warning is empty; and the pkg-config file and README have the header's version.
 
 set -eu
 . "$(dirname "$0")/place.sh"
@@ -30,4 +30,5 @@ grep -q 'unused-result' target/tests/header.out || { cat target/tests/header.out
 packaging/install.sh "$root/target/tests/versioned" "$archive" >target/tests/header.out
 version=$(sed -n 's/^#define JECZMILOT_VERSION "\(.*\)"$/\1/p' include/jeczmilot.h)
 grep -qx "Version: ${version:?}" target/tests/versioned/lib/pkgconfig/jeczmilot.pc
+grep -q "^Version $version\." README.md
 echo "version $version; an answer that is not looked at brings a warning"

@@ -22,6 +22,7 @@ pub const OPENING: bool = true;
 // A key that changes nothing.
 const NO_KEY: Row = [0; 4];
 
+// The mark xored into s15.
 fn marked(s: State, m: u8) -> State
     ensures { λ q. ⌜ q ≡ markedOf m s ⌝ }
 {

@@ -12,6 +12,7 @@ use super::rows::store_row;
 use super::rows::xor_row;
 use rules::w64::*;
 
+// A block xored into s0..s11.
 pub(crate) fn xor_block(s: State, b: &[u8]) -> State
     requires { ⌜ length (now b) ≡ rate word64 ⌝ }
     ensures { λ q. ⌜ q ≡ xorBlock word64 s (was b) ⌝ }
@@ -61,7 +62,7 @@ pub(crate) fn open_block(s: State, b: &[u8], out: &mut [u8]) -> State
     [r0, r1, r2, r3]
 }
 
-// The bytes of s0..s11.
+// The bytes of s0..s11 written.
 fn store_rate(s: State, b: &mut [u8])
     requires { ⌜ length (now b) ≡ rate word64 ⌝ }
     ensures { λ _. ⌜ now (b .exit) ≡ rateOf word64 s ⌝ }
@@ -71,6 +72,7 @@ fn store_rate(s: State, b: &mut [u8])
     store_row(s[2], &mut b[TWO_ROWS..RATE]);
 }
 
+// The bytes of s0..s11.
 pub fn rate_bytes(s: State) -> [u8; RATE]
     ensures { λ q. ⌜ q ≡ rateOf word64 s ⌝ }
 {

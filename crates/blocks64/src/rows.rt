@@ -20,6 +20,7 @@ pub(crate) fn load_row(b: &[u8]) -> Row
     ]
 }
 
+// The bytes of a row written.
 pub(crate) fn store_row(r: Row, b: &mut [u8])
     requires { ⌜ length (now b) ≡ rowBytes word64 ⌝ }
     ensures { λ _. ⌜ now (b .exit) ≡ bytesOfRow word64 r ⌝ }
@@ -30,6 +31,7 @@ pub(crate) fn store_row(r: Row, b: &mut [u8])
     store(r[3], &mut b[THREE_WORDS..ROW]);
 }
 
+// Two rows xored word by word.
 pub(crate) fn xor_row(r: Row, q: Row) -> Row
     ensures { λ x. ⌜ x ≡ xorRow r q ⌝ }
 {

@@ -108,6 +108,7 @@ pub fn ends(part: Part, standing: Standing, next: u32) -> bool
     (present(standing) <= rank) & (rank < next)
 }
 
+// The most bytes that a part may have.
 fn limit(part: Part) -> usize
     ensures { λ r. ⌜ r ≡ limitOf part ⌝ }
 {
@@ -250,6 +251,7 @@ pub fn after(p: Place, part: Part, n: usize) -> Place
     }
 }
 
+// The place once a piece that fits is accepted.
 fn moved(p: Place, part: Part, n: usize) -> Place
     requires { ⌜ countOf p part + n ≤ limitOf part ⌝ }
     ensures { λ r. ⌜ r ≡ movedOf p part n ⌝ }

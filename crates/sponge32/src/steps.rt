@@ -8,6 +8,7 @@ use blocks32::turns::SEALING;
 use blocks32::turns::unwritten;
 use rules::w32::*;
 
+// A block xored into s0..s11, by the function of blocks32 that asks nothing of its callers.
 pub(crate) fn xor_block(s: State, b: &[u8]) -> State
     requires { ⌜ length (now b) ≡ rate word32 ⌝ }
     ensures { λ q. ⌜ q ≡ xorBlock word32 s (was b) ⌝ }

@@ -7,7 +7,7 @@ ghost use Rattle.norx.specs.Lent.{was};
 ghost use Rattle.norx.specs.Norx.{word64, rate, padded as paddedOf};
 use rules::w64::*;
 
-// The left bytes of a part in a block of zeros.
+// The left bytes of a part in a block of zeros. R and its last byte stand here as numbers, the form that the requirements name.
 pub(crate) fn filled(left: &[u8]) -> [u8; RATE]
     requires { ⌜ length (now left) ≤ rate word64 ⌝ }
     ensures { λ q. ⌜ q ≡ was left ++ replicate (rate word64 - length (was left)) 0 ⌝ }

@@ -1,4 +1,4 @@
-// A part in pieces that are cut anywhere. n is how many bytes of the part came before; only its place in the block counts.
+// A part in pieces that are cut anywhere. n is how many bytes of the part came before, of which only n modulo R matters; j is that.
 ghost use mathlib.Core.Path.{_≡_};
 ghost use mathlib.Core.Bool.{cond};
 ghost use mathlib.Core.List.{_++_};
@@ -121,6 +121,7 @@ fn seal_filling(s: State, rounds: u32, j: usize, d: &[u8], out: &mut [u8]) -> St
     t
 }
 
+// Bytes of a body that begin a block and leave room in it, and their ciphertext.
 fn seal_left(s: State, rounds: u32, left: &[u8], out: &mut [u8]) -> State
     requires { ⌜ (length (now left) < rate word64) × (length (now out) ≡ length (now left)) ⌝ }
     ensures state { λ q. ⌜ q ≡ fed word64 rounds bodyMark s 0 (was left) ⌝ }
@@ -131,6 +132,7 @@ fn seal_left(s: State, rounds: u32, left: &[u8], out: &mut [u8]) -> State
     t
 }
 
+// Bytes of a body that begin a block: the full blocks and the bytes left, and their ciphertext.
 fn seal_aligned(s: State, rounds: u32, d: &[u8], out: &mut [u8]) -> State
     requires { ⌜ length (now out) ≡ length (now d) ⌝ }
     ensures state { λ q. ⌜ q ≡ fed word64 rounds bodyMark s 0 (was d) ⌝ }
@@ -141,6 +143,7 @@ fn seal_aligned(s: State, rounds: u32, d: &[u8], out: &mut [u8]) -> State
     seal_left(t, rounds, &d[at..], &mut out[at..])
 }
 
+// A piece of a body and its ciphertext, where the output is as long as the piece.
 fn seal_exact(s: State, rounds: u32, n: usize, d: &[u8], out: &mut [u8]) -> State
     requires { ⌜ length (now out) ≡ length (now d) ⌝ }
     ensures state { λ q. ⌜ q ≡ fed word64 rounds bodyMark s n (was d) ⌝ }
@@ -179,6 +182,7 @@ fn open_filling(s: State, rounds: u32, j: usize, c: &[u8]) -> State
     xor_block(s, &p)
 }
 
+// Ciphertext that begins a block and leaves room in it: its message is taken in.
 fn open_left(s: State, rounds: u32, left: &[u8]) -> State
     requires { ⌜ length (now left) < rate word64 ⌝ }
     ensures { λ q. ⌜ q ≡ fed word64 rounds bodyMark s 0 (unfed word64 rounds s 0 (was left)) ⌝ }
@@ -194,6 +198,7 @@ fn open_left(s: State, rounds: u32, left: &[u8]) -> State
     xor_block(e, &p)
 }
 
+// Ciphertext that begins a block: the message of the full blocks and of the bytes left is taken in.
 fn open_aligned(s: State, rounds: u32, c: &[u8]) -> State
     ensures { λ q. ⌜ q ≡ fed word64 rounds bodyMark s 0 (unfed word64 rounds s 0 (was c)) ⌝ }
 {

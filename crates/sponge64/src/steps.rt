@@ -8,6 +8,7 @@ use blocks64::turns::SEALING;
 use blocks64::turns::unwritten;
 use rules::w64::*;
 
+// A block xored into s0..s11, by the function of blocks64 that asks nothing of its callers.
 pub(crate) fn xor_block(s: State, b: &[u8]) -> State
     requires { ⌜ length (now b) ≡ rate word64 ⌝ }
     ensures { λ q. ⌜ q ≡ xorBlock word64 s (was b) ⌝ }
