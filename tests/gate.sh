@@ -29,6 +29,8 @@ count() { # LOG COMMAND..
     failed=$((failed + bad))
 }
 
+# What the tests outside the proof need is looked for first, so that nobody waits for the proof to hear that it is missing.
+tests/tools.sh
 count target/log/rt-ci.out tests/progress.sh ci
 echo
 count target/log/outside.out tests/outside.sh

@@ -29,6 +29,8 @@ grep -q 'unused-result' target/tests/header.out || { cat target/tests/header.out
 
 packaging/install.sh "$root/target/tests/versioned" "$archive" >target/tests/header.out
 version=$(sed -n 's/^#define JECZMILOT_VERSION "\(.*\)"$/\1/p' include/jeczmilot.h)
-grep -qx "Version: ${version:?}" target/tests/versioned/lib/pkgconfig/jeczmilot.pc
-grep -q "^Version $version\." README.md
+if ! grep -qx "Version: ${version:?}" target/tests/versioned/lib/pkgconfig/jeczmilot.pc || ! grep -q "^Version $version\." README.md; then
+    echo "the header's version is $version; that of the pkg-config file or of README is another"
+    exit 1
+fi
 echo "version $version; an answer that is not looked at brings a warning"

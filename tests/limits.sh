@@ -11,6 +11,7 @@ mkdir -p target/tests
 # The flags are lists of words.
 # shellcheck disable=SC2086
 $CC $CFLAGS -Iinclude -o "$program" tests/limits.c "$archive" $LDFLAGS
-$RUN "$program" | tee target/tests/limits.out
+$RUN "$program" >target/tests/limits.out
+cat target/tests/limits.out
 cmp tests/limits.txt target/tests/limits.out
 echo "$(wc -l <tests/limits.txt) rows answer as tests/limits.txt says"

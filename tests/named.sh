@@ -11,7 +11,8 @@ sorted_names() {
 
 listed=$(sed -e 's/#.*//' -n -e 's/:.*//p' crates.txt | sorted_names)
 drawn=$(sed -n 's/.*class="name"[^>]*>\([a-z0-9]*\)<.*/\1/p' docs/layers.svg | sorted_names)
-written=$(awk '/^```/ { on = !on; if (!on) exit; next } on' docs/ARCHITECTURE.md | grep -Eow "$(echo "$listed" | paste -sd '|')" | sorted_names)
+written=$(awk '/^```/ { on = !on; if (!on) exit; next } on' docs/ARCHITECTURE.md | cut -c18- |
+    awk -F '  +' 'NF { print $1; if ($2 ~ /^[a-z]+64$/) print $2 }' | sorted_names)
 tabled=$(sed -n 's/^| \(`crates[^|]*\)|.*/\1/p' README.md | sed 's/crates\///g' | sorted_names)
 
 for place in drawn written tabled; do

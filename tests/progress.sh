@@ -46,11 +46,12 @@ ci) task="Proving $(many $crates crate) from nothing, trying $(many $edits edit)
 staticlib) task="Building the C library of ${2-no crate}, over $(many $((crates - 1)) crate)" ;;
 *) task="Proving $(many $crates crate) and running $(many $runs program)" ;;
 esac
-echo "$task${MINUTES:+: about $MINUTES minutes on two cores}. V=1 shows all that the checker says; target/log has it."
+echo "$task${MINUTES:+: about $MINUTES minutes on two cores, from nothing}. V=1 shows all that the checker says; target/log has it."
 
 shown=follow
 if [ "${V-}" = 1 ]; then
     shown='cat'
+    export RT_CUT=0
 elif [ -t 1 ]; then
     clear=$(printf '\r\033[K')
     at_work "$work/began" &

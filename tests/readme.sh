@@ -17,7 +17,8 @@ try() {
     # The flags are lists of words.
     # shellcheck disable=SC2086
     $CC $CFLAGS -o target/tests/readme target/tests/readme.c "$@" $LDFLAGS
-    $RUN target/tests/readme | tee target/tests/readme.out
+    $RUN target/tests/readme >target/tests/readme.out
+    cat target/tests/readme.out
     cmp target/tests/readme.txt target/tests/readme.out
 }
 

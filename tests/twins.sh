@@ -55,8 +55,8 @@ if [ "${1-}" = --write ]; then
             derived "$file" >"$twin"
         fi
     done
-    # What stands at the narrow side alone has lost its twin.
-    printf '%s\n' "$narrow" "$expected" "$expected" | sort | uniq -u | xargs -r rm
+    # What stands at the narrow side alone has lost its twin, and is taken away.
+    printf '%s\n' "$narrow" "$expected" "$expected" | sort | uniq -u | xargs -r rm -v
     find crates -type d -empty -delete
     exit
 fi

@@ -36,28 +36,28 @@ module _ (w : Width) (l : ℕ) where
   length-fedText (b ∷ d) s i = ap suc (length-fedText d _ (suc i))
 
   -- within a block: the new rate's bytes at their place
-  pub shown-of : (s : State) (i : ℕ) (d : List ℕ) {t : State} {y : List ℕ} → i % rate w + length d ≤ rate w → Bytes d → t ≡ fed w l bodyMark s i d
+  pub written-of : (s : State) (i : ℕ) (d : List ℕ) {t : State} {y : List ℕ} → i % rate w + length d ≤ rate w → Bytes d → t ≡ fed w l bodyMark s i d
       → y ≡ take (length d) (drop (i % rate w) (rateOf w t)) → y ≡ fedText w l s i d
   unfolding fedText
-  shown-of s i [] h bytes ht hy = hy
-  shown-of s i (b ∷ d) h bytes ht hy =
+  written-of s i [] h bytes ht hy = hy
+  written-of s i (b ∷ d) h bytes ht hy =
       hy ∙ ap (λ (x : State). take (suc (length d)) (drop (i % rate w) (rateOf w x))) ht ∙ sym (text-some w l (b ∷ d) s i (omega arith) h bytes)
 
   -- as code shows them: copied from place j of the rate's bytes to an output o
-  pub rate-shown : (t : State) (j : ℕ) (o : List ℕ) {r y : List ℕ} → j + length o ≤ rate w → r ≡ rateOf w t
+  pub written-rate : (t : State) (j : ℕ) (o : List ℕ) {r y : List ℕ} → j + length o ≤ rate w → r ≡ rateOf w t
       → y ≡ take (length (take (j + length o - j) (drop j r))) (take (j + length o - j) (drop j r)) ++ drop (length (take (j + length o - j) (drop j r))) o
       → y ≡ take (length o) (drop j (rateOf w t))
-  rate-shown t j o {r} {y} h hr hy =
+  written-rate t j o {r} {y} h hr hy =
       let n : ℕ = length o in
       let len : length r ≡ rate w = ap length hr ∙ length-rateOf w t in
       let src : length (take (j + n - j) (drop j r)) ≡ n = ap length (cut n j r) ∙ length-take-le n (drop j r) (omega (arith, length-drop j r)) in
       hy ∙ copied (take (j + n - j) (drop j r)) o src ∙ cut n j r ∙ ap (λ (x : List ℕ). take n (drop j x)) hr
 
-  pub filling-shown : (s : State) (j : ℕ) (d o : List ℕ) {t : State} {y : List ℕ} → j < rate w → j + length d ≤ rate w → length o ≡ length d → Bytes d
+  pub written-filling : (s : State) (j : ℕ) (d o : List ℕ) {t : State} {y : List ℕ} → j < rate w → j + length d ≤ rate w → length o ≡ length d → Bytes d
       → t ≡ fed w l bodyMark s j d → y ≡ take (length o) (drop j (rateOf w t)) → y ≡ fedText w l s j d
-  filling-shown s j d o {t} {y} lt h e bytes ht hy =
+  written-filling s j d o {t} {y} lt h e bytes ht hy =
       let m : j % rate w ≡ j = mod-eq-of-lt lt in
-      shown-of s j d (omega arith) bytes ht (hy ∙ ap₂ (λ (a b : ℕ). take a (drop b (rateOf w t))) e (sym m))
+      written-of s j d (omega arith) bytes ht (hy ∙ ap₂ (λ (a b : ℕ). take a (drop b (rateOf w t))) e (sym m))
 
   -- bytes that begin a block: the full blocks, and the bytes left
   pub text-aligned : (s : State) (d : List ℕ) → Bytes d
@@ -75,10 +75,10 @@ module _ (w : Width) (l : ℕ) where
       (ap₂ (λ (t : State) (k : ℕ). fedText w l t k (left w d)) (fed-fulls w l bodyMark s d bytes q le) at
       ∙ text-mod w l (left w d) (afterBlocks w l bodyMark s d q) (q * R) 0 e)
 
-  pub aligned-shown : (s : State) (d o : List ℕ) {out y : List ℕ} {t : State} {x : List ℕ} → Bytes d → length o ≡ length d
+  pub written-aligned : (s : State) (d o : List ℕ) {out y : List ℕ} {t : State} {x : List ℕ} → Bytes d → length o ≡ length d
       → t ≡ afterBlocks w l bodyMark s d (fulls w d) → x ≡ left w d → out ≡ cipherBlocks w l s d (fulls w d) ++ drop (fulls w d * rate w) o
       → y ≡ fedText w l t 0 x → put out (fulls w d * rate w) y (length out - fulls w d * rate w) ≡ fedText w l s 0 d
-  aligned-shown s d o {out} {y} {t} {x} bytes ho ht hx hout hy =
+  written-aligned s d o {out} {y} {t} {x} bytes ho ht hx hout hy =
       let k : ℕ = fulls w d * rate w in
       let le : k ≤ length d = blocks-le (length d) (rate w) (rate-pos w) in
       let z : List ℕ = fedText w l (afterBlocks w l bodyMark s d (fulls w d)) 0 (left w d) in
@@ -89,11 +89,11 @@ module _ (w : Width) (l : ℕ) where
       ∙ sym (text-aligned s d bytes)
 
   -- a piece: what goes on in a block, and the rest
-  pub piece-shown : (s : State) (n k : ℕ) (d o : List ℕ) {t : State} {a b y z : List ℕ} → k ≤ length d → length o ≡ length d
+  pub written-piece : (s : State) (n k : ℕ) (d o : List ℕ) {t : State} {a b y z : List ℕ} → k ≤ length d → length o ≡ length d
       → (length d - k ≡ 0) ⊎ ((n % rate w + k) % rate w ≡ 0) → a ≡ take k d → b ≡ drop k d → t ≡ fed w l bodyMark s (n % rate w) a
       → y ≡ fedText w l s (n % rate w) a → z ≡ fedText w l t 0 b
       → put (y ++ drop (k - 0) o) k z (length (y ++ drop (k - 0) o) - k) ≡ fedText w l s n d
-  piece-shown s n k d o {t} {a} {b} {y} {z} h ho c ha hb ht hy hz =
+  written-piece s n k d o {t} {a} {b} {y} {z} h ho c ha hb ht hy hz =
       let j : ℕ = n % rate w in
       let y′ : y ≡ fedText w l s j (take k d) = hy ∙ ap (fedText w l s j) ha in
       let z′ : z ≡ fedText w l (fed w l bodyMark s j (take k d)) 0 (drop k d) =

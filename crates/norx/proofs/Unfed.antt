@@ -46,9 +46,9 @@ module _ (w : Width) (l : ℕ) where
         ∙ sym (unfed-some w l c s j (omega arith) bytes
         ∙ ap₂ (λ (k : ℕ) (t : State). xors (take (length c) (drop k (rateOf w t))) c) lt (entered-within w l bodyMark s j z))
 
-    pub checked-filling : {a p : List ℕ} {v : State} → a ≡ take (length c) (drop j r) → p ≡ placed j a ++ zeros (rate w - j - length a)
+    pub unfed-filling : {a p : List ℕ} {v : State} → a ≡ take (length c) (drop j r) → p ≡ placed j a ++ zeros (rate w - j - length a)
         → v ≡ xorBlock w s p → v ≡ fed w l bodyMark s j (unfed w l s j c)
-    checked-filling {a} {p} {v} ha hp hv =
+    unfed-filling {a} {p} {v} ha hp hv =
         let m : List ℕ = unfed w l s j c in
         let e : a ≡ m = ha ∙ recovered-filling in
         let n : length m ≡ length c = length-unfed c s j in
@@ -67,25 +67,25 @@ module _ (w : Width) (l : ℕ) where
         ∙ sym (unfed-some w l c s 0 (omega arith) bytes
         ∙ ap₂ (λ (k : ℕ) (t : State). xors (take (length c) (drop k (rateOf w t))) c) z (entered-start w l bodyMark s 0 z))
 
-    pub checked-fresh : {a p : List ℕ} {v : State} → a ≡ take (length c) r → p ≡ a ++ zeros (rate w - length a)
+    pub unfed-fresh : {a p : List ℕ} {v : State} → a ≡ take (length c) r → p ≡ a ++ zeros (rate w - length a)
         → v ≡ xorBlock w e p → v ≡ fed w l bodyMark s 0 (unfed w l s 0 c)
-    checked-fresh {a} {p} {v} ha hp hv =
+    unfed-fresh {a} {p} {v} ha hp hv =
         let m : List ℕ = unfed w l s 0 c in
         let g : a ≡ m = ha ∙ recovered-fresh in
         let n : length m ≡ length c = length-unfed c s 0 in
         fresh-of w l bodyMark s m (λ q. some (omega arith)) (omega arith) (bytes-unfed w l c s 0 bytes) he (hp ∙ ap (λ (y : List ℕ). y ++ zeros (rate w - length y)) g) hv
 
-  pub checked-none : (s : State) (i : ℕ) (c : List ℕ) → length c ≡ 0 → s ≡ fed w l bodyMark s i (unfed w l s i c)
+  pub unfed-none : (s : State) (i : ℕ) (c : List ℕ) → length c ≡ 0 → s ≡ fed w l bodyMark s i (unfed w l s i c)
   unfolding fed unfed
-  checked-none s i [] e = refl
-  checked-none s i (x ∷ c) e = let z : ⊥ = omega arith in absurd z
+  unfed-none s i [] e = refl
+  unfed-none s i (x ∷ c) e = let z : ⊥ = omega arith in absurd z
 
   -- ---- the full blocks, and the bytes left
 
-  pub checked-aligned : (s : State) (c : List ℕ) {t v : State} {x : List ℕ} → Bytes c
+  pub unfed-aligned : (s : State) (c : List ℕ) {t v : State} {x : List ℕ} → Bytes c
       → t ≡ afterBlocks w l bodyMark s (messageBlocks w l s c (fulls w c)) (fulls w c) → x ≡ left w c
       → v ≡ fed w l bodyMark t 0 (unfed w l t 0 x) → v ≡ fed w l bodyMark s 0 (unfed w l s 0 c)
-  checked-aligned s c {t} {v} {x} bytes ht hx hv =
+  unfed-aligned s c {t} {v} {x} bytes ht hx hv =
       let R : ℕ = rate w in
       let q : ℕ = fulls w c in
       let a : List ℕ = messageBlocks w l s c q in
@@ -112,10 +112,10 @@ module _ (w : Width) (l : ℕ) where
 
   -- ---- a piece: what goes on in a block, and the rest
 
-  pub checked-piece : (s : State) (n k : ℕ) (c : List ℕ) {t v : State} {a b : List ℕ} → k ≤ length c → (length c - k ≡ 0) ⊎ ((n % rate w + k) % rate w ≡ 0)
+  pub unfed-piece : (s : State) (n k : ℕ) (c : List ℕ) {t v : State} {a b : List ℕ} → k ≤ length c → (length c - k ≡ 0) ⊎ ((n % rate w + k) % rate w ≡ 0)
       → a ≡ take k c → b ≡ drop k c → t ≡ fed w l bodyMark s (n % rate w) (unfed w l s (n % rate w) a)
       → v ≡ fed w l bodyMark t 0 (unfed w l t 0 b) → v ≡ fed w l bodyMark s n (unfed w l s n c)
-  checked-piece s n k c {t} {v} {a} {b} h d ha hb ht hv =
+  unfed-piece s n k c {t} {v} {a} {b} h d ha hb ht hv =
       let j : ℕ = n % rate w in
       let d′ : (length (drop k c) ≡ 0) ⊎ ((j + k) % rate w ≡ 0) = ⊎-elim (λ e. inl (length-drop k c ∙ e)) inr d in
       let m : List ℕ = unfed w l s j (take k c) in

@@ -28,16 +28,19 @@ shownAt w writing out at e b = cond writing (put out at (shownBlock w e b) (rate
 
 -- ---- The first i full blocks of a text
 
+-- the state after them
 unfoldable pub afterTurns : Width → ℕ → ℕ → Bool → State → List ℕ → ℕ → State
 afterTurns w l m opening s d zero = s
 afterTurns w l m opening s d (suc i) = withBlock w opening (entered w l m (afterTurns w l m opening s d i)) (run (rate w) i d)
 
+-- the bytes that they give, joined
 unfoldable pub shown : Width → ℕ → ℕ → Bool → State → List ℕ → ℕ → List ℕ
 shown w l m opening s d zero = []
 shown w l m opening s d (suc i) = shown w l m opening s d i ++ shownBlock w (entered w l m (afterTurns w l m opening s d i)) (run (rate w) i d)
 
 -- ---- All of them
 
+-- the state after them
 abbrev pub afterAllTurns : Width → ℕ → ℕ → Bool → State → List ℕ → State
 afterAllTurns w l m opening s d = afterTurns w l m opening s d (fulls w d)
 

@@ -53,8 +53,8 @@ pub(crate) fn close(s: Checking, revision: u64, tag: &[u8], name: &[u8]) -> Chec
     step
 }
 
-// The bytes of each part that a session has taken.
-pub(crate) fn say_taken(s: Checking) {
+// The bytes of each part that a session has accepted.
+pub(crate) fn say_accepted(s: Checking) {
     say(b"note ");
     say_number(s.note as u64);
     say(b", body ");

@@ -1,7 +1,7 @@
 // The story: a lost connection, the retries, and the job of two revisions that the old seal let through.
 use crate::gateway::close;
 use crate::gateway::piece;
-use crate::gateway::say_taken;
+use crate::gateway::say_accepted;
 use crate::gateway::start;
 use crate::job::HALF;
 use crate::job::NEW;
@@ -52,8 +52,8 @@ pub(crate) fn second_fetch(old_text: &[u8], text: &[u8], tag: &[u8]) -> bool {
     say(b"The fetch begins anew, and a note piece comes late:\n");
     let s = piece(s, 12, Part::Body, 0, first, b"first half of 12");
     let s = piece(s, 12, Part::Note, 0, &NOTE, b"the note");
-    say(b"Taken so far, and nothing of what was refused: ");
-    say_taken(s);
+    say(b"Accepted so far, and nothing of what was refused: ");
+    say_accepted(s);
     let s = piece(s, 12, Part::Body, HALF, second, b"second half of 12");
     let s = piece(s, 12, Part::Trailer, 0, &TRAILER, b"the trailer");
     let step = close(s, 12, tag, b"the tag of 12");

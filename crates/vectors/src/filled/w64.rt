@@ -46,7 +46,7 @@ fn run_body() {
 fn close(steps: Steps) {
     let s = steps.sealing.session;
     let c = steps.checking.session;
-    print_two(b"bytes of the body taken:", s.body as u64, c.body as u64);
+    print_two(b"bytes of the body accepted:", s.body as u64, c.body as u64);
     let mut tag = [0u8; TAG];
     let sealed = s.close(edition(0), &mut tag);
     let checked = c.close(edition(0), &tag);

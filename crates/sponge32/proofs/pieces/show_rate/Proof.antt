@@ -2,7 +2,7 @@
 -- Assumes nothing.
 use borrow.Author.Needs.{needs}
 use Rattle.norx.specs.Norx.{word32, rate}
-use Rattle.norx.proofs.FedText.{rate-shown}
+use Rattle.norx.proofs.FedText.{written-rate}
 use Rattle.sponge32.proofs.pieces.show_rate.Statement.{statement}
 use Rattle.sponge32.proofs.pieces.show_rate.Tie as tie
 
@@ -11,7 +11,7 @@ returns c =
     let copy-at = c .before .before in
     let rate = copy-at .before .before .before .before in
     let x = rate .before .before .args in
-    rate-shown word32 0 (x .t) (x .j) (x .out .now) (rate .before .before .pre) (rate .rate-bytes .ensures) (copy-at .copy .ensures .1)
+    written-rate word32 0 (x .t) (x .j) (x .out .now) (rate .before .before .pre) (rate .rate-bytes .ensures) (copy-at .copy .ensures .1)
 
 pub show-rate-spec : {M : Type 1} → statement M
 show-rate-spec =

@@ -9,7 +9,7 @@ use lib.ListN.{take}
 use lib.Seq.{length-take-le}
 use Rattle.norx.specs.Norx.{word64}
 use Rattle.norx.proofs.Slices.{tail}
-use Rattle.norx.proofs.Unfed.{checked-piece}
+use Rattle.norx.proofs.Unfed.{unfed-piece}
 use Rattle.sponge64.proofs.pieces.open.Statement.{statement}
 use Rattle.sponge64.proofs.pieces.open.Tie as tie
 
@@ -28,7 +28,7 @@ returns c =
     let x = filling .before .before .args in
     let t = x .c .now in
     let k = filling .filling .result in
-    checked-piece word64 (x .rounds) (x .s) (x .n) k t (filling .filling .ensures .0) (filling .filling .ensures .3) (ap (λ (i : ℕ). take i t) (sub-zero k)) (tail k t)
+    unfed-piece word64 (x .rounds) (x .s) (x .n) k t (filling .filling .ensures .0) (filling .filling .ensures .3) (ap (λ (i : ℕ). take i t) (sub-zero k)) (tail k t)
     (first .open-filling .ensures) (c .open-aligned .ensures)
 
 pub open-spec : {M : Type 1} → statement M

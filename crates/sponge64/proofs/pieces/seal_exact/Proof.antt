@@ -10,7 +10,7 @@ use lib.Seq.{length-take-le}
 use Rattle.norx.specs.Norx.{word64, bodyMark}
 use Rattle.norx.proofs.Slices.{tail}
 use Rattle.norx.proofs.Fed.{piece-of}
-use Rattle.norx.proofs.FedText.{piece-shown}
+use Rattle.norx.proofs.FedText.{written-piece}
 use Rattle.sponge64.proofs.pieces.seal_exact.Statement.{statement}
 use Rattle.sponge64.proofs.pieces.seal_exact.Tie as tie
 
@@ -36,7 +36,7 @@ returns c =
     let e = filling .filling .ensures in
     let a = ap (λ (i : ℕ). take i d) (sub-zero k) in (
       piece-of word64 (x .rounds) bodyMark (x .s) (x .n) k d (e .0) (e .3) a (tail k d) (first .seal-filling .ensures .0) (last .seal-aligned .ensures .0),
-      piece-shown word64 (x .rounds) (x .s) (x .n) k d (x .out .now) (e .0) (start .pre) (e .3) a (tail k d) (first .seal-filling .ensures .0) (first .seal-filling .ensures .1)
+      written-piece word64 (x .rounds) (x .s) (x .n) k d (x .out .now) (e .0) (start .pre) (e .3) a (tail k d) (first .seal-filling .ensures .0) (first .seal-filling .ensures .1)
           (last .seal-aligned .ensures .1),
     )
 
