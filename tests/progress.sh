@@ -42,7 +42,7 @@ many() { # NUMBER NOUN
 }
 
 case $command in
-ci) task="Proving $(many $crates crate) from nothing, trying $(many $edits edit) that must be refused, and running $(many $runs program)" ;;
+ci) task="Proving $(many $crates crate), trying $(many $edits edit) that must be refused, and running $(many $runs program)" ;;
 staticlib) task="Building the C library of ${2-no crate}, over $(many $((crates - 1)) crate)" ;;
 *) task="Proving $(many $crates crate) and running $(many $runs program)" ;;
 esac

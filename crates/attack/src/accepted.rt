@@ -44,7 +44,7 @@ impl Accepted {
         next
     }
 
-    // Whether it is the whole honest job.
+    // Whether it is the whole honest job, with its note of 18 bytes and its trailer of 15.
     pub(crate) fn whole(self) -> bool {
         self.honest & (self.note == 18) & (self.body == BODY) & (self.trailer == 15)
     }

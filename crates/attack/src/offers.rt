@@ -42,11 +42,12 @@ pub(crate) fn body(foreign_bytes: bool, from: usize, n: usize, offset: usize) ->
     }
 }
 
+// A piece of no bytes.
 fn nothing() -> Offer {
     body(false, 0, 0, 0)
 }
 
-// The first k bytes of one revision and the rest of the other, for each k from 1 to all of them.
+// The first k bytes of one revision and the rest of the other, for each k from 1 to all 300 of them.
 fn cut(m: u32, p: u8) -> Offer {
     let k = (m / 4 % 300 + 1) as usize;
     let foreign_first = m / 2 % 2 == 1;
@@ -88,6 +89,7 @@ fn retry(k: usize, p: u8) -> Offer {
     }
 }
 
+// A whole part, as it is in the honest job.
 fn whole(part: Part) -> Offer {
     Offer {
         part: part,
@@ -110,6 +112,7 @@ fn random(p: u8, had: usize, x: u64) -> Offer {
     }
 }
 
+// x is read digit by digit: its remainders by 8, 8, 4, 4, 300, 60 and 48, each of what the one before leaves.
 fn random_piece(had: usize, x: u64) -> Offer {
     match x / 18432000 % 48 {
         0 => whole(Part::Note),

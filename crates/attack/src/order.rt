@@ -65,16 +65,16 @@ pub(crate) fn swapped(t: Touched, p: u8, had: usize) -> Offer {
     } else {
         place
     };
-    moved(t.size, piece, had, t.i < t.j)
+    piece_offer(t.size, piece, had, t.i < t.j)
 }
 
 // The piece i twice.
 pub(crate) fn repeated(t: Touched, p: u8, had: usize, relabelled: bool) -> Offer {
     let place = p as u32;
     if place <= t.i {
-        moved(t.size, place, had, relabelled)
+        piece_offer(t.size, place, had, relabelled)
     } else {
-        moved(t.size, place - 1, had, relabelled)
+        piece_offer(t.size, place - 1, had, relabelled)
     }
 }
 
@@ -82,20 +82,21 @@ pub(crate) fn repeated(t: Touched, p: u8, had: usize, relabelled: bool) -> Offer
 pub(crate) fn dropped(t: Touched, p: u8, had: usize, relabelled: bool) -> Offer {
     let place = p as u32;
     if place < t.i {
-        moved(t.size, place, had, relabelled)
+        piece_offer(t.size, place, had, relabelled)
     } else {
-        moved(t.size, place + 1, had, relabelled)
+        piece_offer(t.size, place + 1, had, relabelled)
     }
 }
 
 // A piece with the offset that the session wants, or with its own.
-fn moved(size: u32, piece: u32, had: usize, relabelled: bool) -> Offer {
-    let from = start(size, piece);
+fn piece_offer(size: u32, piece: u32, had: usize, relabelled: bool) -> Offer {
+    let from = offset_of(size, piece);
     let offset = if relabelled { had } else { from };
     body(false, from, size as usize, offset)
 }
 
-fn start(size: u32, piece: u32) -> usize {
+// Where a piece of that size begins; the sizes are written out, so that no product can wrap.
+fn offset_of(size: u32, piece: u32) -> usize {
     match size {
         20 => piece as usize * 20,
         48 => piece as usize * 48,
