@@ -58,18 +58,23 @@ module _ (w : Width) (l m : ℕ) where
   shaped-ended s zero h = h
   shaped-ended s (suc n) h = shaped-xorBlock w (enteredAt w l m s (suc n)) _ (shaped-enteredAt s (suc n) h)
 
-  pub shaped-turns : (opening : Bool) (s : State) (d : List ℕ) (i : ℕ) → Shaped s → Shaped (afterTurns w l m opening s d i)
+  shaped-turns : (opening : Bool) (s : State) (d : List ℕ) (i : ℕ) → Shaped s → Shaped (afterTurns w l m opening s d i)
   unfolding afterTurns
   shaped-turns opening s d zero h = h
   shaped-turns true s d (suc i) h = shaped-xorBlock w (entered w l m (afterTurns w l m true s d i)) _ (shaped-entered _ (shaped-turns true s d i h))
   shaped-turns false s d (suc i) h = shaped-xorBlock w (entered w l m (afterTurns w l m false s d i)) _ (shaped-entered _ (shaped-turns false s d i h))
 
 -- a state that code holds
-pub shaped-whole : (w : Width) (s : State) → Whole w s → Shaped s
+shaped-whole : (w : Width) (s : State) → Whole w s → Shaped s
 shaped-whole w s (four-rows (four h0 h1 h2 h3) (four i0 i1 i2 i3) (four j0 j1 j2 j3) (four k0 k1 k2 k3)) = shaped
 
 -- a key of zeros leaves a state as it is
-pub unkeyed : (s : State) → Shaped s → keyed (row 0 0 0 0) s ≡ s
+unkeyed : (s : State) → Shaped s → keyed (row 0 0 0 0) s ≡ s
 unfolding keyed xorRow
 unkeyed s (shaped {a} {b} {c} {d} {e} {f} {g} {h} {i} {j} {k} {m} {n} {o} {p} {q}) =
     λ z. rows (row a b c d) (row e f g h) (row i j k m) (row (xor-zero-r n z) (xor-zero-r o z) (xor-zero-r p z) (xor-zero-r q z))
+
+-- so the turns of a state that code holds, and then a key of zeros, are the turns alone
+pub unkeyed-turns : (w : Width) (l m : ℕ) (opening : Bool) (s : State) (d : List ℕ) (i : ℕ) → Whole w s
+    → keyed (row 0 0 0 0) (afterTurns w l m opening s d i) ≡ afterTurns w l m opening s d i
+unkeyed-turns w l m opening s d i h = unkeyed _ (shaped-turns w l m opening s d i (shaped-whole w s h))

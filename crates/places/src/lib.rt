@@ -240,7 +240,7 @@ pub fn close_answer(p: Place, edition: Edition, wanted: usize, tag: usize) -> An
     )
 }
 
-// The place once a piece of n bytes is taken; as it was where they would pass the limit.
+// The place once a piece of n bytes is accepted; as it was where they would pass the limit.
 pub fn after(p: Place, part: Part, n: usize) -> Place
     ensures { λ r. ⌜ r ≡ cond (leb (countOf p part + n) (limitOf part)) (movedOf p part n) p ⌝ }
 {
