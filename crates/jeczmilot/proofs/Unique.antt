@@ -15,8 +15,8 @@ use Rattle.jeczmilot.proofs.norx_open.Reads.{Post as Post-norx-open}
 
 pub one-norx-seal : (κs : Lfts 6) (a : ArgsD signature-norx-seal κs) (r r′ : ResD signature-norx-seal κs) (s s′ : AtExit (endedOf 6 kinds-norx-seal.ps kinds-norx-seal.r) κs)
     → Post-norx-seal κs a r s → Post-norx-seal κs a r′ s′ → (r ≡ r′) × (now (s .1 .1 .1 .1 .1 .1 .1 .0) ≡ now (s′ .1 .1 .1 .1 .1 .1 .1 .0))
-one-norx-seal κs a r r′ s s′ p q = (p .0 ∙ sym (q .0), p .1 ∙ sym (q .1))
+one-norx-seal κs a r r′ s s′ p q = (p .0 ∙ sym (q .0), p .1 .0 ∙ sym (q .1 .0))
 
 pub one-norx-open : (κs : Lfts 6) (a : ArgsD signature-norx-open κs) (r r′ : ResD signature-norx-open κs) (s s′ : AtExit (endedOf 6 kinds-norx-open.ps kinds-norx-open.r) κs)
     → Post-norx-open κs a r s → Post-norx-open κs a r′ s′ → (r ≡ r′) × (now (s .1 .1 .1 .1 .1 .1 .1 .0) ≡ now (s′ .1 .1 .1 .1 .1 .1 .1 .0))
-one-norx-open κs a r r′ s s′ p q = (p .0 ∙ sym (q .0), p .1 ∙ sym (q .1))
+one-norx-open κs a r r′ s s′ p q = (p .0 ∙ sym (q .0), p .1 .0 ∙ sym (q .1 .0))

@@ -7,11 +7,8 @@ use native.Mathlib.Nat.{mod-lt, zero-lt-suc}
 use native.Mathlib.Omega.{arith}
 use lib.Bits.{bitXor, xor-lt}
 use lib.ListN.{length, getD, take, drop, set, replicate, length-replicate}
+pub use Rattle.norx.specs.Texts.{Bytes}
 use Rattle.norx.specs.Norx.{Width, run, bytesOf, bytesOfRow, rateOf, rowAt, wordAt, wordBytes, xorAt, padded}
-
--- each element is a byte
-abbrev pub Bytes : List ℕ → Type 0
-Bytes l = (i : ℕ) → getD l i 0 < 256
 
 abbrev pub zeros : ℕ → List ℕ
 zeros n = replicate n 0

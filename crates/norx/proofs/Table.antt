@@ -1,11 +1,16 @@
 -- The worked numbers of the requirements that are marked (P), as one table.
 -- Assumes nothing.
 use mathlib.Core.Path.{_≡_, refl}
-use mathlib.Core.List.{[], _∷_, _++_, map}
-use Prim.Native.Nat.{_^_}
-use lib.ListN.{drop, replicate}
+use mathlib.Core.List.{List, [], _∷_, _++_, map}
+use Prim.Native.Nat.{ℕ, zero, suc, _^_}
+use lib.ListN.{replicate}
 use Rattle.norx.specs.Norx.{word32, word64, bytesOf, ror, H, G, padded, blockCount}
 use Rattle.norx.specs.Front.{front}
+
+-- n left bytes, of which none is zero and no two are alike: 1, 2, .., n
+abbrev upTo : ℕ → List ℕ
+upTo zero = []
+upTo (suc n) = upTo n ++ (suc n ∷ [])
 
 pub record Numbers : Type 0 where
   pub h-of-1-1 : H word32 1 1 ≡ 2
@@ -16,8 +21,8 @@ pub record Numbers : Type 0 where
   pub rotated-64 : ror word64 8 1 ≡ 2 ^ 56
   pub g-of-1-0-0-0 : G word32 1 0 0 0 ≡ 0x0000_2001 ∷ 0x4202_4200 ∷ 0x2101_0100 ∷ 0x2001_0100 ∷ []
   pub padding-of-0 : padded 48 [] ≡ 0x01 ∷ (replicate 46 0 ++ (0x80 ∷ []))
-  pub padding-of-46 : drop 46 (padded 48 (replicate 46 0)) ≡ 0x01 ∷ 0x80 ∷ []
-  pub padding-of-47 : drop 47 (padded 48 (replicate 47 0)) ≡ 0x81 ∷ []
+  pub padding-of-46 : padded 48 (upTo 46) ≡ upTo 46 ++ (0x01 ∷ 0x80 ∷ [])
+  pub padding-of-47 : padded 48 (upTo 47) ≡ upTo 47 ++ (0x81 ∷ [])
   pub revision-258 : front 258 ≡ 0x02 ∷ 0x01 ∷ 0 ∷ 0 ∷ 0 ∷ 0 ∷ 0 ∷ 0 ∷ []
   pub block-counts : map (blockCount 48) (0 ∷ 1 ∷ 47 ∷ 48 ∷ 96 ∷ []) ≡ 0 ∷ 1 ∷ 1 ∷ 2 ∷ 3 ∷ []
 

@@ -5,3 +5,4 @@ pub mod Blocks
 pub mod Turns
 pub mod Rows
 pub mod Lent
+pub mod Texts

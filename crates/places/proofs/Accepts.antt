@@ -1,13 +1,19 @@
 -- What is known where a start, a piece or a close is answered 0.
 -- Assumes nothing.
-use mathlib.Core.Path.{_≡_, refl}
+use mathlib.Core.Path.{_≡_, refl, ap}
 use mathlib.Core.Bool.{Bool, true, false, _&&_, false≢true}
+use mathlib.Core.Logic.{_↔_, _≢_}
 use Prim.Native.Nat.{ℕ, _+_, _≤_}
+use native.Mathlib.Omega.{arith}
 use borrow.Author.Tests.{leb-true, eqb-true, eq-eqb}
 use lib.Dec.{leb, eqb}
-use Rattle.answers.specs.declared.Answer.the-variants.{Done}
-use Rattle.answers.specs.Answers.{doneOf, needOf}
-use Rattle.answers.proofs.Chain.{passed, both}
+use Rattle.norx.specs.Norx.{Width, rowBytes}
+use Rattle.answers.specs.declared.Answer.the-variants.{Done, KeyLength, RoundsNumber, TagLength, OverLimit, NotSound}
+use Rattle.answers.specs.Answers.{numberOf, doneOf, needOf}
+use Rattle.answers.proofs.Chain.{done-zero, zero-done, passed, passes, link-not, both, and-true}
+use Rattle.rules.specs.Rules.{roundsOk, lengthsOk}
+use Rattle.rules.specs.Limits.{StartLimits}
+use Rattle.rules.proofs.Limits.{start-from, start-to}
 use Rattle.places.specs.declared.terms.Edition.{Edition}
 use Rattle.places.specs.declared.terms.Terms.{Terms}
 use Rattle.places.specs.declared.Part.{Part}
@@ -18,7 +24,7 @@ use Rattle.places.specs.declared.Standing.the-variants.{Closed, Open}
 use Rattle.places.specs.declared.Place.{Place}
 use Rattle.places.specs.Terms.{termsOk}
 use Rattle.places.specs.Places.{rankOf, presentOf, limitOf, countOf, moved, countsWithin, unreachedOf, soundAt, soundOf, startAnswer, pieceAnswer, closeAnswer, Accepted}
-use Rattle.places.proofs.Editions.{edition-passed, edition-own}
+use Rattle.places.proofs.Editions.{edition-passed, edition-own, edition-not}
 
 within-at : (s : Standing) (p : Place) → soundAt s p ≡ true → countsWithin p ≡ true
 within-at Closed p e = absurd (false≢true e)
@@ -36,9 +42,13 @@ each-within p e =
     let second = both (leb (p .note) (limitOf Note)) (leb (p .body) (limitOf Body)) (first .0) in
     (second .0, second .1, first .1)
 
+pub sound-counts : (p : Place) → soundOf p ≡ true → (p .note ≤ limitOf Note) × (p .body ≤ limitOf Body) × (p .trailer ≤ limitOf Trailer)
+sound-counts p e =
+    let each = each-within p (sound-within p e) in
+    (leb-true (p .note) (limitOf Note) (each .0), leb-true (p .body) (limitOf Body) (each .1), leb-true (p .trailer) (limitOf Trailer) (each .2))
+
 pub sound-noted : (p : Place) → soundOf p ≡ true → p .note ≤ limitOf Note
-sound-noted p e =
-    leb-true (p .note) (limitOf Note) (each-within p (sound-within p e) .0)
+sound-noted p e = sound-counts p e .0
 
 pub startable : (row : ℕ) (T : Terms) (key nonce : ℕ) → doneOf (startAnswer row T key nonce) ≡ true → (termsOk T ≡ true) × (key ≡ row) × (nonce ≡ row)
 unfolding startAnswer
@@ -46,6 +56,22 @@ startable row T key nonce h =
     let rounds = passed _ _ _ refl h in
     let lengths = both (eqb key row) (eqb nonce row) (passed _ _ _ refl (rounds .1) .0) in
     (rounds .0, eqb-true key row (lengths .0), eqb-true nonce row (lengths .1))
+
+-- a start is answered 0 exactly where the limits are kept
+pub start-limits : (w : Width) (T : Terms) (key nonce : ℕ) → (numberOf (startAnswer (rowBytes w) T key nonce) ≡ 0) ↔ StartLimits w (T .rounds) key nonce
+unfolding startAnswer
+start-limits w T key nonce = (from, to)
+  where
+    from : numberOf (startAnswer (rowBytes w) T key nonce) ≡ 0 → StartLimits w (T .rounds) key nonce
+    from e =
+        let a = passed (roundsOk (T .rounds)) RoundsNumber _ refl (zero-done (startAnswer (rowBytes w) T key nonce) e) in
+        let b = passed (lengthsOk (rowBytes w) key nonce) KeyLength Done refl (a .1) in
+        start-from w (T .rounds) key nonce (a .0) (b .0)
+
+    to : StartLimits w (T .rounds) key nonce → numberOf (startAnswer (rowBytes w) T key nonce) ≡ 0
+    to h =
+        let s = start-to w (T .rounds) key nonce h in
+        done-zero (startAnswer (rowBytes w) T key nonce) (passes _ _ _ (s .0) (passes _ _ Done (s .1) refl))
 
 pub accepted : (p : Place) (label : Label) (n : ℕ) (exact : Bool) → doneOf (pieceAnswer p label n exact) ≡ true → Accepted p (label .part) n exact
 unfolding pieceAnswer
@@ -70,10 +96,6 @@ closable p edition wanted tag h =
     (sound-noted p (sound .0), eqb-true tag wanted (passed _ _ _ refl (within .1) .0))
 
 -- ---- a place stays sound
-
-and-true : (a b : Bool) → a ≡ true → b ≡ true → (a && b) ≡ true
-and-true true b e f = f
-and-true false b e f = absurd (false≢true e)
 
 module _ (p : Place) (n : ℕ) where
   within-moved : (k : Part) → countsWithin p ≡ true → leb (countOf p k + n) (limitOf k) ≡ true → countsWithin (moved p k n) ≡ true
@@ -120,3 +142,28 @@ sound-closes p wanted tag e f =
     let within : countsWithin p ≡ true = sound-within p e in
     let long : eqb tag wanted ≡ true = eq-eqb tag wanted f in
     rw (e, edition-own (p .terms .edition), within, long)
+
+-- the numbers of a close are never answered 10
+pub close-no-tag : (p : Place) (edition : Edition) (wanted tag : ℕ) → numberOf (closeAnswer p edition wanted tag) ≢ 10
+unfolding closeAnswer
+close-no-tag p edition wanted tag =
+    link-not 10 (soundOf p) NotSound _ (λ e. omega arith)
+    (edition-not edition (p .terms .edition) _
+    (link-not 10 (countsWithin p) OverLimit _ (λ e. omega arith)
+    (link-not 10 (eqb tag wanted) TagLength Done (λ e. omega arith) (λ e. omega arith))))
+
+-- a closed place is not sound, so every call on it is answered 9
+closed-at : (s : Standing) (p : Place) → s ≡ Closed → soundAt s p ≡ false
+closed-at s p e = ap (λ (z : Standing). soundAt z p) e
+
+closed-unsound : (p : Place) → p .standing ≡ Closed → soundOf p ≡ false
+unfolding soundOf
+closed-unsound p e = closed-at (p .standing) p e
+
+pub closed-piece : (p : Place) (label : Label) (n : ℕ) (exact : Bool) → p .standing ≡ Closed → pieceAnswer p label n exact ≡ NotSound
+unfolding pieceAnswer needOf
+closed-piece p label n exact e = rw (closed-unsound p e)
+
+pub closed-close : (p : Place) (edition : Edition) (wanted tag : ℕ) → p .standing ≡ Closed → closeAnswer p edition wanted tag ≡ NotSound
+unfolding closeAnswer needOf
+closed-close p edition wanted tag e = rw (closed-unsound p e)

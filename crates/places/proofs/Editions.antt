@@ -2,6 +2,8 @@
 -- Assumes nothing.
 use mathlib.Core.Path.{_≡_, refl}
 use mathlib.Core.Bool.{true}
+use mathlib.Core.Logic.{_≢_}
+use native.Mathlib.Omega.{arith}
 use borrow.Author.Tests.{eq-eqb}
 use lib.Dec.{eqb}
 use lib.ListN.{length}
@@ -9,8 +11,9 @@ use Rattle.norx.specs.Norx.{bytesOf}
 use Rattle.norx.specs.Front.{front, frontBytes}
 use Rattle.norx.proofs.Bytes.{Bytes, bytes-bytesOf}
 use Rattle.answers.specs.declared.Answer.{Answer}
-use Rattle.answers.specs.Answers.{doneOf, needOf}
-use Rattle.answers.proofs.Chain.{passed}
+use Rattle.answers.specs.declared.Answer.the-variants.{OtherRevision}
+use Rattle.answers.specs.Answers.{numberOf, doneOf, needOf}
+use Rattle.answers.proofs.Chain.{passed, link-not}
 use Rattle.places.specs.declared.terms.Edition.{Edition}
 use Rattle.places.specs.Terms.{ofEdition, frontOf}
 
@@ -18,6 +21,11 @@ use Rattle.places.specs.Terms.{ofEdition, frontOf}
 pub edition-passed : (given own : Edition) (rest : Answer) → doneOf (ofEdition given own rest) ≡ true → doneOf rest ≡ true
 unfolding ofEdition
 edition-passed given own rest h = passed _ _ _ refl h .1
+
+-- it answers 6 or what the rest answers
+pub edition-not : (given own : Edition) (rest : Answer) → numberOf rest ≢ 10 → numberOf (ofEdition given own rest) ≢ 10
+unfolding ofEdition
+edition-not given own rest h = link-not 10 (eqb (given .revision) (own .revision)) OtherRevision rest (λ e. omega arith) h
 
 -- a session's own edition is not refused
 pub edition-own : (E : Edition) (rest : Answer) → ofEdition E E rest ≡ rest

@@ -1,2 +1,4 @@
 pub mod Lengths
 pub mod Unique
+pub mod Limits
+pub mod OneCall

@@ -1,2 +1,4 @@
 pub mod Rules
 pub mod Calls
+pub mod OneCall
+pub mod Limits

@@ -1,78 +1,141 @@
--- Opening in one call, as its contract has it: where the numbers are as the limits ask, a message is handed out exactly when it seals to the given
--- text, and where no message does, the answer is 10 and the output zeros.
+-- Demands 1 and 2 of a call, from what its contract says of the answer and of the output.
 -- Assumes nothing.
 use mathlib.Core.Path.{_≡_, refl, sym, ap, _∙_}
-use mathlib.Core.Bool.{Bool, true, cond}
+use mathlib.Core.Bool.{true, false}
+use mathlib.Core.Logic.{_⊎_, inl, inr, ⊎-elim, _↔_, _≢_}
 use mathlib.Core.List.{List}
 use mathlib.Core.Option.{Option, none, some}
-use Prim.Native.Nat.{ℕ}
+use Prim.Native.Nat.{ℕ, _<_}
 use native.Mathlib.Omega.{arith}
+use borrow.Author.Tests.{ne-eqb}
 use lib.ListN.{length, replicate}
-use Rattle.norx.specs.Norx.{Width, tagBits, sealed, opened}
-use Rattle.norx.proofs.Bytes.{Bytes}
-use Rattle.norx.proofs.Opening.{open-sealed, sealed-opened, opened-bytes, refused-unsealed}
-use Rattle.answers.specs.declared.Answer.the-variants.{Done, TagDiffers}
-use Rattle.answers.specs.Answers.{doneOf}
+use Rattle.norx.specs.Norx.{Width, rowBytes, tagBits, sealed, opened}
+use Rattle.norx.specs.Texts.{Bytes, SealsTo}
+use Rattle.answers.specs.declared.Answer.{Answer}
+use Rattle.answers.specs.Answers.{numberOf, doneOf}
+use Rattle.answers.proofs.Tests.{either, cond-true, cond-false}
+use Rattle.answers.proofs.Chain.{done-zero, zero-done}
+use Rattle.rules.specs.Rules.{tagBytes}
 use Rattle.rules.specs.Calls.{answerOf, outOf}
-use Rattle.sealing.specs.Calls.{sealAnswer, sealOut, checked, openAnswer, openOut}
+use Rattle.rules.specs.OneCall.{sealAnswer, sealOut, checked, tagAnswer, tagOut, openAnswer, openOut}
 use Rattle.rules.proofs.Lengths.{tag-fits}
+use Rattle.rules.proofs.Limits.{seal-limits, open-limits, seal-answers, open-answers}
+use Rattle.rules.proofs.OneCall.{handed-out, refused, seal-done, open-done}
+use Rattle.sealing.specs.Promises.{LeavesBytes, MaySeal, MayOpen, Seals, Opens}
 
-module _ (w : Width) (l : ℕ) (key nonce header text trailer out : List ℕ) where
-  -- sealing gives exactly what the definition gives
-  pub seals : doneOf (sealAnswer w l key nonce header text trailer out) ≡ true
-      → sealOut w l key nonce header text trailer out ≡ sealed w l (tagBits w) key nonce header text trailer
+-- ---- sealing
+
+module _ (w : Width) (l : ℕ) (key nonce header text trailer before : List ℕ) where
+  abbrev sealing : Answer
+  sealing = sealAnswer w l key nonce header text trailer before
+
+  may-seal : (numberOf sealing ≡ 0) ↔ MaySeal w l key nonce header text trailer before
+  unfolding sealAnswer
+  may-seal = seal-limits w l (length key) (length nonce) (length header) (length text) (length trailer) (length before)
+
+  pub sealing-not : (n : ℕ) → 5 < n → numberOf (sealAnswer w l key nonce header text trailer before) ≢ n
+  unfolding sealAnswer
+  sealing-not n more = seal-answers n more (rowBytes w) (tagBytes w) l (length key) (length nonce) (length header) (length text) (length trailer) (length before)
+
+  kept-sealing : numberOf sealing ≢ 0 → sealOut w l key nonce header text trailer before ≡ before
   unfolding sealOut
-  seals ok = ap (λ (b : Bool). cond b (sealed w l (tagBits w) key nonce header text trailer) out) ok
+  kept-sealing h = cond-false _ _ before (ne-eqb (numberOf sealing) 0 h)
 
-  module _ (ok : doneOf (checked w l key nonce header text trailer out) ≡ true) where
-    abbrev o : Option (List ℕ)
-    o = opened w l (tagBits w) key nonce header text trailer
+  seals : Seals w l key nonce header text trailer before (numberOf (sealAnswer w l key nonce header text trailer before)) (sealOut w l key nonce header text trailer before)
+  seals = record {
+    sealed-there = seal-done w l key nonce header text trailer before;
+    only-there = may-seal .0;
+    no-tag-looked-at = sealing-not 10 (omega arith);
+    leaves = record { kept = λ h g. kept-sealing h; zeroed = λ e. absurd (sealing-not 10 (omega arith) e) };
+  }
 
-    answer-is : openAnswer w l key nonce header text trailer out ≡ answerOf o
-    unfolding openAnswer
-    answer-is = ap (λ (b : Bool). cond b (answerOf o) (checked w l key nonce header text trailer out)) ok
+-- ---- opening
 
-    out-is : openOut w l key nonce header text trailer out ≡ outOf o (length out)
-    unfolding openOut
-    out-is = ap (λ (b : Bool). cond b (outOf o (length out)) out) ok
+module _ (w : Width) (l : ℕ) (key nonce header text trailer before : List ℕ) where
+  abbrev checks : Answer
+  checks = checked w l key nonce header text trailer before
 
-    -- a message that seals to the text is handed out
-    pub handed-out : (m : List ℕ) → Bytes m → sealed w l (tagBits w) key nonce header m trailer ≡ text
-        → (openAnswer w l key nonce header text trailer out ≡ Done) × (openOut w l key nonce header text trailer out ≡ m)
-    handed-out m h e =
-        let is : o ≡ some m =
-        ap (λ (x : List ℕ). opened w l (tagBits w) key nonce header x trailer) (sym e) ∙ open-sealed w l (tagBits w) (tag-fits w) key nonce header trailer m h in
-        (answer-is ∙ ap answerOf is, out-is ∙ ap (λ (x : Option (List ℕ)). outOf x (length out)) is)
+  abbrev o : Option (List ℕ)
+  o = opened w l (tagBits w) key nonce header text trailer
 
-    by-message : Bytes text → (x : Option (List ℕ)) → o ≡ x → answerOf x ≡ Done → sealed w l (tagBits w) key nonce header (outOf x (length out)) trailer ≡ text
-    by-message h none e a = let z : _≡_ {A = ℕ} 0 1 = cc in let w : ⊥ = omega arith in absurd w
-    by-message h (some m) e a = sealed-opened w l (tagBits w) (tag-fits w) key nonce header trailer text m h e
+  abbrev opening : Answer
+  opening = openAnswer w l key nonce header text trailer before
 
-    -- what is handed out seals to the text
-    pub sealed-by : Bytes text → openAnswer w l key nonce header text trailer out ≡ Done
-        → sealed w l (tagBits w) key nonce header (openOut w l key nonce header text trailer out) trailer ≡ text
-    sealed-by h a =
-        ap (λ (m : List ℕ). sealed w l (tagBits w) key nonce header m trailer) out-is ∙ by-message h o refl (sym answer-is ∙ a)
+  abbrev output : List ℕ
+  output = openOut w l key nonce header text trailer before
 
-    by-none : Bytes text → ((m : List ℕ) → Bytes m → sealed w l (tagBits w) key nonce header m trailer ≡ text → ⊥) → (x : Option (List ℕ)) → o ≡ x → o ≡ none
-    by-none h never none e = e
-    by-none h never (some m) e =
-        absurd
-        (never m (opened-bytes w l (tagBits w) (tag-fits w) key nonce header trailer text m h e)
-        (sealed-opened w l (tagBits w) (tag-fits w) key nonce header trailer text m h e))
+  may-open : (numberOf checks ≡ 0) ↔ MayOpen w l key nonce header text trailer before
+  may-open = open-limits w l (length key) (length nonce) (length header) (length text) (length trailer) (length before)
 
-    -- where no message seals to the text, it is refused, and the output is zeros
-    pub refused : Bytes text → ((m : List ℕ) → Bytes m → sealed w l (tagBits w) key nonce header m trailer ≡ text → ⊥)
-        → (openAnswer w l key nonce header text trailer out ≡ TagDiffers) × (openOut w l key nonce header text trailer out ≡ replicate (length out) 0)
-    refused h never =
-        let is = by-none h never o refl in
-        (answer-is ∙ ap answerOf is, out-is ∙ ap (λ (x : Option (List ℕ)). outOf x (length out)) is)
+  -- where its numbers are refused: their answer, which is neither 0 nor 10, and the output as it was
+  numbers-refused : doneOf checks ≡ false → (opening ≡ checks) × (output ≡ before)
+  unfolding openAnswer openOut
+  numbers-refused e = (cond-false _ _ _ e, cond-false _ _ _ e)
 
-    by-refusal : (x : Option (List ℕ)) → o ≡ x → answerOf x ≡ TagDiffers → o ≡ none
-    by-refusal none e a = e
-    by-refusal (some m) e a = let z : _≡_ {A = ℕ} 0 1 = cc in let w : ⊥ = omega arith in absurd w
+  checks-not : (n : ℕ) → 5 < n → numberOf checks ≢ n
+  checks-not n more = open-answers n more (rowBytes w) (tagBytes w) l (length key) (length nonce) (length header) (length text) (length trailer) (length before)
 
-    -- and where it is refused for its tag, no message seals to it
-    pub no-message : openAnswer w l key nonce header text trailer out ≡ TagDiffers
-        → (m : List ℕ) → Bytes m → sealed w l (tagBits w) key nonce header m trailer ≡ text → ⊥
-    no-message a m h = refused-unsealed w l (tagBits w) (tag-fits w) key nonce header trailer text m h (by-refusal o refl (sym answer-is ∙ a))
+  may-where : doneOf checks ≡ true → MayOpen w l key nonce header text trailer before
+  may-where e = may-open .0 (done-zero checks e)
+
+  never-there : doneOf checks ≡ false → (numberOf opening ≡ 0) ⊎ (numberOf opening ≡ 10) → ⊥
+  never-there e (inl z) = let done : doneOf checks ≡ true = zero-done checks (sym (ap numberOf (numbers-refused e .0)) ∙ z) in let no : _≡_ {A = ℕ} 0 1 = cc in omega arith
+  never-there e (inr z) = checks-not 10 (omega arith) (sym (ap numberOf (numbers-refused e .0)) ∙ z)
+
+  only-there : (numberOf opening ≡ 0) ⊎ (numberOf opening ≡ 10) → MayOpen w l key nonce header text trailer before
+  only-there h = ⊎-elim may-where (λ e. absurd (never-there e h)) (either (doneOf checks))
+
+  by-tag : (x : Option (List ℕ)) → (numberOf (answerOf x) ≡ 0) ⊎ (numberOf (answerOf x) ≡ 10)
+  by-tag none = inr refl
+  by-tag (some m) = inl refl
+
+  pub opening-not : (n : ℕ) → 10 < n → numberOf (openAnswer w l key nonce header text trailer before) ≢ n
+  opening-not n more z =
+      ⊎-elim
+      (λ (e : doneOf checks ≡ true).
+      let number : numberOf opening ≡ numberOf (answerOf o) = ap numberOf (open-done w l key nonce header text trailer before (may-where e) .0) in
+      ⊎-elim (λ y. omega arith) (λ y. omega arith) (by-tag o))
+      (λ (e : doneOf checks ≡ false). checks-not n (omega arith) (sym (ap numberOf (numbers-refused e .0)) ∙ z))
+      (either (doneOf checks))
+
+  zeros-of : (n : ℕ) (x : Option (List ℕ)) → numberOf (answerOf x) ≡ 10 → outOf x n ≡ replicate n 0
+  zeros-of n none e = refl
+  zeros-of n (some m) e = absurd (omega arith)
+
+  leaves-bytes : LeavesBytes before (numberOf opening) output
+  leaves-bytes =
+      ⊎-elim
+      (λ (e : doneOf checks ≡ true).
+      let done = open-done w l key nonce header text trailer before (may-where e) in
+      let number : numberOf opening ≡ numberOf (answerOf o) = ap numberOf (done .0) in
+      record {
+        kept = λ h g. absurd (⊎-elim (λ z. h (number ∙ z)) (λ z. g (number ∙ z)) (by-tag o));
+        zeroed = λ z. done .1 ∙ zeros-of (length before) o (sym number ∙ z);
+      })
+      (λ (e : doneOf checks ≡ false). record { kept = λ h g. numbers-refused e .1; zeroed = λ z. absurd (never-there e (inr z)) })
+      (either (doneOf checks))
+
+  opens : Bytes text → Opens w l key nonce header text trailer before (numberOf (openAnswer w l key nonce header text trailer before)) (openOut w l key nonce header text trailer before)
+  opens bytes = record {
+    handed-out = λ may M.
+        let done = open-done w l key nonce header text trailer before may in
+        rw (done .0, done .1) (handed-out w l (tagBits w) (tag-fits w) key nonce header text trailer bytes (length before) M);
+    refused = λ may.
+        let done = open-done w l key nonce header text trailer before may in
+        rw (done .0, done .1) (refused w l (tagBits w) (tag-fits w) key nonce header text trailer bytes (length before));
+    only-there = only-there;
+    leaves = leaves-bytes;
+  }
+
+-- ---- a contract, from its equations
+
+module _ (w : Width) (l : ℕ) (key nonce header text trailer before : List ℕ) {r : Answer} {after : List ℕ} where
+  pub seal-ensures : r ≡ sealAnswer w l key nonce header text trailer before → after ≡ sealOut w l key nonce header text trailer before
+      → (r ≡ sealAnswer w l key nonce header text trailer before)
+      × ((after ≡ sealOut w l key nonce header text trailer before) × Seals w l key nonce header text trailer before (numberOf r) after)
+  seal-ensures e f = (e, (f, rw (e, f) (seals w l key nonce header text trailer before)))
+
+  pub open-ensures : Bytes text → r ≡ openAnswer w l key nonce header text trailer before → after ≡ openOut w l key nonce header text trailer before
+      → (r ≡ openAnswer w l key nonce header text trailer before)
+      × ((after ≡ openOut w l key nonce header text trailer before) × Opens w l key nonce header text trailer before (numberOf r) after)
+  open-ensures bytes e f = (e, (f, rw (e, f) (opens w l key nonce header text trailer before bytes)))

@@ -8,7 +8,7 @@ use lib.Dec.{eqb}
 use Rattle.norx.specs.Norx.{Width, word32, word64}
 use Rattle.answers.specs.declared.Answer.{Answer}
 use Rattle.answers.specs.declared.Answer.the-variants.{WidthNumber}
-use Rattle.sealing.specs.Calls.{sealAnswer, sealOut, openAnswer, openOut}
+use Rattle.rules.specs.OneCall.{sealAnswer, sealOut, openAnswer, openOut}
 
 -- the width that a number means, if it means one
 unfoldable pub widthOf : ℕ → Option Width

@@ -1,7 +1,9 @@
 // Sealing and opening in one call: at each width under the same names, and at a width that is given as a number.
 ghost use mathlib.Core.Path.{_≡_};
 ghost use Rattle.norx.specs.Lent.{was};
+ghost use Rattle.answers.specs.Answers.{numberOf};
 ghost use Rattle.sealing.specs.Widths.{sealAnswerAt, sealOutAt, openAnswerAt, openOutAt};
+ghost use Rattle.sealing.specs.Promises.{SealsAt, OpensAt};
 use answers::Answer;
 
 pub mod w32;
@@ -20,6 +22,7 @@ pub fn seal(
 ) -> Answer
     ensures answer { λ r. ⌜ r ≡ sealAnswerAt width rounds (was key) (was nonce) (was header) (was body) (was trailer) (was out) ⌝ }
     ensures output { λ _. ⌜ now (out .exit) ≡ sealOutAt width rounds (was key) (was nonce) (was header) (was body) (was trailer) (was out) ⌝ }
+    ensures promise { λ r. ⌜ SealsAt width rounds (was key) (was nonce) (was header) (was body) (was trailer) (was out) (numberOf r) (now (out .exit)) ⌝ }
 {
     if width == 32 {
         return w32::seal(rounds, key, nonce, header, body, trailer, out);
@@ -43,6 +46,7 @@ pub fn open(
 ) -> Answer
     ensures answer { λ r. ⌜ r ≡ openAnswerAt width rounds (was key) (was nonce) (was header) (was sealed) (was trailer) (was out) ⌝ }
     ensures output { λ _. ⌜ now (out .exit) ≡ openOutAt width rounds (was key) (was nonce) (was header) (was sealed) (was trailer) (was out) ⌝ }
+    ensures promise { λ r. ⌜ OpensAt width rounds (was key) (was nonce) (was header) (was sealed) (was trailer) (was out) (numberOf r) (now (out .exit)) ⌝ }
 {
     if width == 32 {
         return w32::open(rounds, key, nonce, header, sealed, trailer, out);

@@ -3,9 +3,11 @@ ghost use mathlib.Core.Path.{_≡_};
 ghost use lib.ListN.{length};
 ghost use Rattle.norx.specs.Lent.{was};
 ghost use Rattle.norx.specs.Norx.{word32, rowBytes, tagBits, headerMark, rowOf, afterPart, start as norxStart, sealed as sealedOf};
+ghost use Rattle.answers.specs.Answers.{numberOf};
 ghost use Rattle.rules.specs.Rules.{tagBytes};
 ghost use Rattle.rules.specs.Calls.{Exact};
-ghost use Rattle.sealing.specs.Calls.{sealAnswer, sealOut, tagAnswer, tagOut, openAnswer, openOut};
+ghost use Rattle.rules.specs.OneCall.{sealAnswer, sealOut, tagAnswer, tagOut, openAnswer, openOut};
+ghost use Rattle.sealing.specs.Promises.{Seals, Opens};
 use answers::Answer;
 use answers::done;
 use blocks32::ends::row;
@@ -63,6 +65,7 @@ pub fn seal(
 ) -> Answer
     ensures answer { λ r. ⌜ r ≡ sealAnswer word32 rounds (was key) (was nonce) (was header) (was body) (was trailer) (was out) ⌝ }
     ensures output { λ _. ⌜ now (out .exit) ≡ sealOut word32 rounds (was key) (was nonce) (was header) (was body) (was trailer) (was out) ⌝ }
+    ensures promise { λ r. ⌜ Seals word32 rounds (was key) (was nonce) (was header) (was body) (was trailer) (was out) (numberOf r) (now (out .exit)) ⌝ }
 {
     let answer = seal_checks(
         ROW,
@@ -98,8 +101,8 @@ fn open_checked(
     let k = row(key);
     let s = before_body(rounds, k, nonce, header);
     let n = out.len();
-    let t = decrypt(s, rounds, &sealed[0..n], &mut *out);
-    let own = tag(rounds, k, absorb(t, rounds, TRAILER_MARK, trailer));
+    let u = decrypt(s, rounds, &sealed[0..n], &mut *out);
+    let own = tag(rounds, k, absorb(u, rounds, TRAILER_MARK, trailer));
     if same(&sealed[n..], &own) {
         return Answer::Done;
     }
@@ -119,8 +122,9 @@ pub fn open(
 ) -> Answer
     ensures answer { λ r. ⌜ r ≡ openAnswer word32 rounds (was key) (was nonce) (was header) (was sealed) (was trailer) (was out) ⌝ }
     ensures output { λ _. ⌜ now (out .exit) ≡ openOut word32 rounds (was key) (was nonce) (was header) (was sealed) (was trailer) (was out) ⌝ }
+    ensures promise { λ r. ⌜ Opens word32 rounds (was key) (was nonce) (was header) (was sealed) (was trailer) (was out) (numberOf r) (now (out .exit)) ⌝ }
 {
-    let answer = open_checks(
+    let checked = open_checks(
         ROW,
         TAG,
         rounds,
@@ -131,8 +135,8 @@ pub fn open(
         trailer.len(),
         out.len(),
     );
-    if done(answer) {
+    if done(checked) {
         return open_checked(rounds, key, nonce, header, sealed, trailer, out);
     }
-    answer
+    checked
 }

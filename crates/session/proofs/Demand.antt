@@ -1,22 +1,28 @@
--- Demand 3, once over the kind of session, its width and its tag bits, for any list of pieces offered after a start that was answered 0.
+-- Demand 3, once over the kind of session: of any list of pieces offered after a start that was answered 0, and so of any list of calls behind which it is still open.
 -- Assumes nothing.
 use mathlib.Core.Path.{_≡_, refl, sym, ap, ap₂, _∙_}
 use mathlib.Core.Bool.{Bool, true, false, cond}
-use mathlib.Core.Logic.{⊎-elim}
+use mathlib.Core.Logic.{_↔_}
 use mathlib.Core.List.{List, [], _∷_, _++_}
 use mathlib.Core.Option.{none, some}
-use Prim.Native.Nat.{ℕ, _-_}
+use Prim.Native.Nat.{ℕ, _-_, _/_, _≤_}
 use native.Mathlib.Omega.{arith}
-use borrow.Author.Tests.{le-leb}
+use borrow.Author.Tests.{le-leb, ne-eqb}
 use lib.ListN.{length, length-append}
 use lib.Seq.{take-at, drop-at}
 use Rattle.norx.specs.Norx.{rowBytes, rowOf, ciphertext, message, sealed, same, bodyPart, tagPart, recovered, opened}
 use Rattle.norx.specs.Stream.{fedText}
 use Rattle.norx.proofs.Bytes.{Bytes, bytes-nil, bytes-append}
 use Rattle.answers.specs.declared.Answer.the-variants.{Done, TagDiffers}
-use Rattle.answers.specs.Answers.{doneOf, needOf}
+use Rattle.answers.specs.Answers.{numberOf, doneOf, needOf}
+use Rattle.answers.proofs.Tests.{cond-true, cond-false}
+use Rattle.answers.proofs.Chain.{zero-done}
+use Rattle.rules.specs.Rules.{longestNote}
 use Rattle.rules.specs.Calls.{answerOf}
-use Rattle.answers.proofs.Tests.{either, cond-true, cond-false}
+use Rattle.rules.specs.Limits.{widthsLength, StartLimits, PartLimits, OpenLimits}
+use Rattle.rules.proofs.Lengths.{tag-fits}
+use Rattle.rules.proofs.Limits.{tag-long}
+use Rattle.rules.proofs.OneCall.{some-message, no-message, seal-done, open-done}
 use Rattle.places.specs.declared.terms.Terms.{Terms}
 use Rattle.places.specs.declared.Part.{Part}
 use Rattle.places.specs.declared.Part.the-variants.{Note, Body, Trailer}
@@ -24,12 +30,14 @@ use Rattle.places.specs.declared.Standing.{Standing}
 use Rattle.places.specs.declared.Standing.the-variants.{Closed, Open}
 use Rattle.places.specs.declared.Place.{Place}
 use Rattle.places.specs.Places.{soundAt, soundOf, startAnswer, closeAnswer}
-use Rattle.places.proofs.Accepts.{startable, moved-sound, sound-closes}
+use Rattle.places.proofs.Accepts.{startable, start-limits, sound-counts, moved-sound, sound-closes}
 use Rattle.session.specs.Sessions.{Way, sealing, checking, verdictOf, Kind, closedOf, stateOf, tagLength, freshOf, startOf, tagAt, ownTag, closeAnswerOf, closeOf, closeTag}
-use Rattle.session.specs.Offered.{Piece, isAccepted, afterPiece, afterAll, accepted, wroteAll, only, joined, lastPart, placeIn, headerOf, held, heldBy}
-use Rattle.session.specs.Promises.{AreBytes, Started, begun, acceptedPieces, SealsAsOne, ChecksAsOne, OneSession, Alike, OneSealing, OneOpening}
-use Rattle.session.proofs.Joining.{moved-place}
-use Rattle.session.proofs.Refused.{Lawful}
+use Rattle.session.specs.Offered.{Piece, Call, tagThen, isAccepted, only, joined, lastPart, placeIn, headerOf, held, heldBy}
+use Rattle.session.specs.Promises.{StillOpen, Started, begun, sessionAfter, CompletesOneSealing, MessageOf, AnswersOneOpening, StartsWithinLimits, OneSession, Alike, WithinOneCall, OneSealing, OneOpening, Promised}
+use Rattle.session.proofs.Joining.{header-long, moved-place}
+use Rattle.session.proofs.Pieces.{afterAll, accepted, wroteAll}
+use Rattle.session.proofs.Refused.{Lawful, refusal-changes-nothing, close-ends, closed-refuses}
+use Rattle.session.proofs.Calls.{piecesOf, AsPieces, as-pieces, without-refused}
 use Rattle.session.proofs.Held.{place-held, state-held, accepted-held, all-kept, fresh-held, session-held}
 use Rattle.session.proofs.Wrote.{cipher, all-wrote}
 use Rattle.session.proofs.Whole.{beforeAsOne, tagAsOne, broughtBody, tag-whole, text-whole, message-whole}
@@ -45,19 +53,25 @@ bytes-only Trailer Note x h = bytes-nil
 bytes-only Trailer Body x h = bytes-nil
 bytes-only Trailer Trailer x h = h
 
-bytes-joined : (K : Kind) (k : Part) (qs : List Piece) (s : K .Session) → AreBytes qs → Bytes (joined k (accepted K s qs))
-bytes-joined K k [] s h = bytes-nil
-bytes-joined K k (q ∷ qs) s h =
-    let rest : Bytes (joined k (accepted K (afterPiece K s q) qs)) = bytes-joined K k qs (afterPiece K s q) (h .1) in
-    ⊎-elim
-    (λ (e : isAccepted K s q ≡ true). rw (cond-true (isAccepted K s q) (q ∷ accepted K (afterPiece K s q) qs) (accepted K (afterPiece K s q) qs) e)
-    (bytes-append (only k (q .label .part) (q .bytes)) (joined k (accepted K (afterPiece K s q) qs)) (bytes-only k (q .label .part) (q .bytes) (h .0)) rest))
-    (λ (e : isAccepted K s q ≡ false). rw (cond-false (isAccepted K s q) (q ∷ accepted K (afterPiece K s q) qs) (accepted K (afterPiece K s q) qs) e) rest)
-    (either (isAccepted K s q))
+bytes-joined : (k : Part) (qs : List Piece) → Bytes (joined k qs)
+bytes-joined k [] = bytes-nil
+bytes-joined k (q ∷ qs) =
+    bytes-append (only k (q .label .part) (q .bytes)) (joined k qs) (bytes-only k (q .label .part) (q .bytes) (q .are-bytes)) (bytes-joined k qs)
 
 abbrev part-of : Standing → Part
 part-of Closed = Note
 part-of (Open part) = part
+
+abbrev openness : Standing → ℕ
+openness Closed = 0
+openness (Open part) = 1
+
+open-not-closed : (part : Part) → Open part ≡ Closed → ⊥
+open-not-closed part e = let z : _≡_ {A = ℕ} 1 0 = ap openness e in omega arith
+
+-- a tag has the width's length
+tag-length : (K : Kind) → Lawful K → tagLength K ≡ widthsLength (K .width)
+tag-length K L = ap (λ (x : ℕ). x / 8) (L .tagged) ∙ tag-long (K .width)
 
 module _ (K : Kind) (L : Lawful K) (key nonce : List ℕ) (T : Terms) where
   -- ---- a start that is answered 0
@@ -66,9 +80,24 @@ module _ (K : Kind) (L : Lawful K) (key nonce : List ℕ) (T : Terms) where
   unfolding startOf
   answer-start = L .answered _ _
 
+  done-start : Started K key nonce T → doneOf (startAnswer (rowBytes (K .width)) T (length key) (length nonce)) ≡ true
+  done-start h = sym (ap doneOf answer-start) ∙ zero-done (K .answer (startOf K key nonce T)) h
+
   started : Started K key nonce T → begun K key nonce T ≡ freshOf K key nonce T
   unfolding startOf
-  started h = L .stepped _ _ ∙ cond-true _ _ _ (sym (ap doneOf answer-start) ∙ h)
+  started h = L .stepped _ _ ∙ cond-true _ _ _ (done-start h)
+
+  not-started : (Started K key nonce T → ⊥) → begun K key nonce T ≡ closedOf K
+  unfolding startOf
+  not-started h =
+      let refused : doneOf (startAnswer (rowBytes (K .width)) T (length key) (length nonce)) ≡ false =
+      ne-eqb (numberOf (startAnswer (rowBytes (K .width)) T (length key) (length nonce))) 0 (λ z. h (ap numberOf answer-start ∙ z)) in
+      L .stepped _ _ ∙ cond-false _ _ _ refused
+
+  start-limits-of : Started K key nonce T ↔ StartLimits (K .width) (T .rounds) (length key) (length nonce)
+  start-limits-of =
+      let limits = start-limits (K .width) T (length key) (length nonce) in
+      (λ e. limits .0 (sym (ap numberOf answer-start) ∙ e), λ h. ap numberOf answer-start ∙ limits .1 h)
 
   module _ (begins : Started K key nonce T) where
     -- the session that the start gave, and of pieces offered to it those that it accepted
@@ -76,7 +105,7 @@ module _ (K : Kind) (L : Lawful K) (key nonce : List ℕ) (T : Terms) where
     s₀ = begun K key nonce T
 
     abbrev accepted₀ : List Piece → List Piece
-    accepted₀ qs = acceptedPieces K key nonce T qs
+    accepted₀ qs = accepted K (begun K key nonce T) qs
 
     accepted-fresh : (qs : List Piece) → accepted₀ qs ≡ accepted K (held K key nonce T Note [] [] []) qs
     accepted-fresh qs = ap (λ (s : K .Session). accepted K s qs) (started begins ∙ fresh-held K L key nonce T)
@@ -115,14 +144,14 @@ module _ (K : Kind) (L : Lawful K) (key nonce : List ℕ) (T : Terms) where
 
     fresh-sound : Sound Note [] [] []
     unfolding soundOf
-    fresh-sound = rw (startable (rowBytes (K .width)) T (length key) (length nonce) (sym (ap doneOf answer-start) ∙ begins) .0)
+    fresh-sound = rw (startable (rowBytes (K .width)) T (length key) (length nonce) (done-start begins) .0)
 
     stays-sound : (qs : List Piece) → soundOf (place qs) ≡ true
     stays-sound qs = rw (accepted-fresh qs) (all-kept K L key nonce T Sound sound-step qs Note [] [] [] fresh-sound)
 
     -- ---- its close under its own edition, with a tag of the right length
 
-    module _ (qs : List Piece) (offered : AreBytes qs) where
+    module _ (qs : List Piece) where
       abbrev n : List ℕ
       n = joined Note (accepted₀ qs)
 
@@ -136,7 +165,7 @@ module _ (K : Kind) (L : Lawful K) (key nonce : List ℕ) (T : Terms) where
       part = lastPart Note (accepted₀ qs)
 
       bytes-of : (k : Part) → Bytes (joined k (accepted₀ qs))
-      bytes-of k = bytes-joined K k qs s₀ offered
+      bytes-of k = bytes-joined k (accepted₀ qs)
 
       abbrev at-end : K .Session
       at-end = held K key nonce T part n b t
@@ -160,6 +189,17 @@ module _ (K : Kind) (L : Lawful K) (key nonce : List ℕ) (T : Terms) where
       unfolding closeOf
       close-is given h = rw (session-is qs) (cond-true _ _ _ (ap doneOf (closes given h)))
 
+      -- ---- the joined parts are within the limits of one call
+
+      parts-within : PartLimits (length (headerOf T n)) (length b) (length t)
+      parts-within =
+          let counts = sound-counts (place qs) (stays-sound qs) in
+          let note : length n ≤ longestNote = counts .0 in
+          record { header-within = omega (arith, header-long T n); body-within = counts .1; trailer-within = counts .2 }
+
+      begins-within : StartLimits (K .width) (T .rounds) (length key) (length nonce)
+      begins-within = start-limits-of .0 begins
+
       -- ---- one sealing
 
       module _ (seals : K .way ≡ sealing) where
@@ -178,13 +218,26 @@ module _ (K : Kind) (L : Lawful K) (key nonce : List ℕ) (T : Terms) where
             ∙ cond-true _ _ _ (ap doneOf (closes given h)) ∙ own
             ∙ ap (λ (way : Way). tagAsOne K key nonce T n (broughtBody K key nonce T way n b) t) seals
 
-        -- the ciphertext written, joined, and the tag at the close are one sealing of the joined pieces, with the front in front
-        sealing-is : (given : List ℕ) → length given ≡ tagLength K → SealsAsOne K key nonce T qs given
+        one-answer : (given : List ℕ) → length given ≡ tagLength K → K .answer (closeOf K (afterAll K s₀ qs) (T .edition) given) ≡ Done
+        one-answer given h =
+            ap (λ (x : K .Step). K .answer x) (close-is given h) ∙ L .answered _ _ ∙ ap (λ (way : Way). verdictOf way given (ownTag K at-end)) seals
+
+        -- the ciphertext written, joined, and the tag at the close
+        one-text : (given : List ℕ) → length given ≡ tagLength K
+            → wroteAll K s₀ qs ++ closeTag K (afterAll K s₀ qs) (T .edition) given ≡ sealed (K .width) (T .rounds) (K .tagBits) key nonce (headerOf T n) b t
         unfolding sealed
-        sealing-is given h = (
-          ap (λ (x : K .Step). K .answer x) (close-is given h) ∙ L .answered _ _ ∙ ap (λ (way : Way). verdictOf way given (ownTag K at-end)) seals,
-          ap₂ (λ (x y : List ℕ). x ++ y) one-ciphertext (one-tag given h),
-        )
+        one-text given h = ap₂ (λ (x y : List ℕ). x ++ y) one-ciphertext (one-tag given h)
+
+        sealing-is : (given : List ℕ) → length given ≡ tagLength K
+            → CompletesOneSealing K key nonce T (headerOf T n) b t
+            (numberOf (K .answer (closeOf K (afterAll K s₀ qs) (T .edition) given))) (wroteAll K s₀ qs ++ closeTag K (afterAll K s₀ qs) (T .edition) given)
+        sealing-is given h = record {
+          answered = ap numberOf (one-answer given h);
+          as-defined = one-text given h;
+          as-one-call = λ out long.
+              let done = seal-done (K .width) (T .rounds) key nonce (headerOf T n) b t out (record { begins = begins-within; parts = parts-within; exact = long }) in
+              (done .0, done .1 ∙ ap (λ (x : ℕ). sealed (K .width) (T .rounds) x key nonce (headerOf T n) b t) (sym (L .tagged)) ∙ sym (one-text given h));
+        }
 
       -- ---- one opening
 
@@ -200,8 +253,9 @@ module _ (K : Kind) (L : Lawful K) (key nonce : List ℕ) (T : Terms) where
         verdict-is true m = refl
         verdict-is false m = refl
 
-        -- the check answers as one opening of the joined ciphertext and that tag does: 0 where it gives a message, and 10 where it gives none
-        opening-is : (given : List ℕ) → length given ≡ tagLength K → ChecksAsOne K key nonce T qs given
+        -- the check answers as one opening of the joined ciphertext and that tag does
+        opening-is : (given : List ℕ) → length given ≡ tagLength K
+            → K .answer (closeOf K (afterAll K s₀ qs) (T .edition) given) ≡ answerOf (opened (K .width) (T .rounds) (K .tagBits) key nonce (headerOf T n) (text given) t)
         unfolding opened recovered
         opening-is given h =
             let m : List ℕ = recovered (K .width) (T .rounds) (K .tagBits) key nonce (headerOf T n) (text given) in
@@ -217,17 +271,100 @@ module _ (K : Kind) (L : Lawful K) (key nonce : List ℕ) (T : Terms) where
             ∙ verdict-is (same given (tagAsOne K key nonce T n m t)) m
             ∙ ap (λ (x : List ℕ). answerOf (cond (same x (tagAsOne K key nonce T n m t)) (some m) none)) (sym tag-is)
 
--- ---- the promises
+        abbrev closing : List ℕ → ℕ
+        closing given = numberOf (K .answer (closeOf K (afterAll K s₀ qs) (T .edition) given))
+
+        abbrev Of : List ℕ → List ℕ → Type 0
+        Of given M = MessageOf K key nonce T (headerOf T n) b t given M
+
+        open-within : (given out : List ℕ) → length given ≡ tagLength K → length out ≡ length b
+            → OpenLimits (K .width) (T .rounds) (length key) (length nonce) (length (headerOf T n)) (length (text given)) (length t) (length out)
+        open-within given out h long =
+            let wide : tagLength K ≡ widthsLength (K .width) = tag-length K L in
+            let parts = parts-within in
+            let whole = length-append b given in
+            record {
+              begins = begins-within;
+              tagged = omega arith;
+              parts = record { header-within = parts .header-within; body-within = omega (arith, parts .body-within); trailer-within = parts .trailer-within };
+              exact = omega arith;
+            }
+
+        checking-is : (given : List ℕ) → Bytes given → length given ≡ tagLength K → AnswersOneOpening K key nonce T (headerOf T n) b t (closing given) given
+        checking-is given bytes h =
+            let is : closing given ≡ numberOf (answerOf (opened (K .width) (T .rounds) (K .tagBits) key nonce (headerOf T n) (text given) t)) = ap numberOf (opening-is given h) in
+            let fits : K .tagBits / 8 ≤ rowBytes (K .width) = rw (L .tagged) (tag-fits (K .width)) in
+            let text-bytes : Bytes (text given) = bytes-append b given (bytes-of Body) bytes in
+            let one = some-message (K .width) (T .rounds) (K .tagBits) fits key nonce (headerOf T n) (text given) t text-bytes in
+            let none-of = no-message (K .width) (T .rounds) (K .tagBits) fits key nonce (headerOf T n) (text given) t text-bytes in
+            record {
+              yes = (λ e. one .0 (sym is ∙ e), λ m. is ∙ one .1 m);
+              no = (λ e. none-of .0 (sym is ∙ e), λ never. is ∙ none-of .1 never);
+              as-one-call = λ out long.
+                  let done = open-done (K .width) (T .rounds) key nonce (headerOf T n) (text given) t out (open-within given out h long) in
+                  is ∙ ap (λ (x : ℕ). numberOf (answerOf (opened (K .width) (T .rounds) x key nonce (headerOf T n) (text given) t))) (L .tagged) ∙ sym (ap numberOf (done .0));
+            }
+
+-- ---- the promises, of any list of calls
 
 module _ (K : Kind) (L : Lawful K) where
-  pub one-session : OneSession K
-  one-session = session-is K L
+  abbrev Still : List ℕ → List ℕ → Terms → List Call → Type 0
+  Still key nonce T cs = StillOpen K (sessionAfter K key nonce T cs)
 
-  pub alike : Alike K
-  alike = alike-is K L
+  as-its-pieces : (key nonce : List ℕ) (T : Terms) (cs : List Call) → Still key nonce T cs → AsPieces K (begun K key nonce T) cs
+  as-its-pieces key nonce T cs still = as-pieces K L cs (begun K key nonce T) still
+
+  starts : StartsWithinLimits K
+  starts key nonce T = (start-limits-of K L key nonce T, not-started K L key nonce T)
+
+  one-session : OneSession K
+  one-session key nonce T h cs still =
+      let same-as = as-its-pieces key nonce T cs still in
+      same-as .session ∙ session-is K L key nonce T h (piecesOf cs) ∙ ap (heldBy K key nonce T) (sym (same-as .pieces))
+
+  is-open : (part : Part) (s : Standing) → s ≡ Open part → s ≡ Closed → ⊥
+  is-open part s e f = open-not-closed part (sym e ∙ f)
+
+  alike : Alike K
+  alike key nonce T h cs cs′ part e e′ joins =
+      let one = as-its-pieces key nonce T cs (is-open part _ e) in
+      let two = as-its-pieces key nonce T cs′ (is-open part _ e′) in
+      let standing-of : K .Session → Standing = λ s. K .place s .standing in
+      let stands : standing-of (afterAll K (begun K key nonce T) (piecesOf cs)) ≡ standing-of (afterAll K (begun K key nonce T) (piecesOf cs′)) =
+      ap standing-of (sym (one .session)) ∙ e ∙ sym e′ ∙ ap standing-of (two .session) in
+      one .session
+      ∙ alike-is K L key nonce T h (piecesOf cs) (piecesOf cs′) stands (λ k. ap (joined k) (sym (one .pieces)) ∙ joins k ∙ ap (joined k) (two .pieces))
+      ∙ sym (two .session)
+
+  within : WithinOneCall K
+  within key nonce T h cs still =
+      let same-as = as-its-pieces key nonce T cs still in
+      rw (same-as .pieces) (parts-within K L key nonce T h (piecesOf cs))
+
+  pub promised : Promised K
+  promised = record {
+    starts = starts;
+    refused = refusal-changes-nothing K L;
+    close-ends = close-ends K L;
+    closed-refuses = closed-refuses K L;
+    one-session = one-session;
+    alike = alike;
+    within = within;
+    without-refused = without-refused K L;
+  }
 
   pub one-sealing : K .way ≡ sealing → OneSealing K
-  one-sealing seals key nonce T h qs b tag long = sealing-is K L key nonce T h qs b seals tag long
+  one-sealing seals key nonce T h cs c own =
+      let same-as = as-its-pieces key nonce T cs (own .0) in
+      let long : length (c .tag) ≡ tagLength K = own .2 ∙ sym (tag-length K L) in
+      let tag : List ℕ = closeTag K (afterAll K (begun K key nonce T) (piecesOf cs)) (T .edition) (c .tag) in
+      let is-written : tagThen (K .way) (c .tag) tag ≡ tag = ap (λ (way : Way). tagThen way (c .tag) tag) seals in
+      rw (same-as .pieces, same-as .session, same-as .written, own .1, is-written)
+      (sealing-is K L key nonce T h (piecesOf cs) seals (c .tag) long)
 
   pub one-opening : K .way ≡ checking → OneOpening K
-  one-opening checks key nonce T h qs b tag long = opening-is K L key nonce T h qs b checks tag long
+  one-opening checks key nonce T h cs c own =
+      let same-as = as-its-pieces key nonce T cs (own .0) in
+      let long : length (c .tag) ≡ tagLength K = own .2 ∙ sym (tag-length K L) in
+      rw (same-as .pieces, same-as .session, own .1)
+      (checking-is K L key nonce T h (piecesOf cs) checks (c .tag) (c .are-bytes) long)

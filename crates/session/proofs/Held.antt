@@ -18,7 +18,8 @@ use Rattle.places.specs.Terms.{frontOf}
 use Rattle.places.specs.Places.{freshPlace, pieceAnswer, moved, Accepted}
 use Rattle.places.proofs.Accepts.{accepted as accepts}
 use Rattle.session.specs.Sessions.{rowsOf, flatOf, takenAt, exactOf, Kind, stateOf, freshOf, pieceAnswerOf, takenOf, pieceOf}
-use Rattle.session.specs.Offered.{Piece, isAccepted, afterPiece, afterAll, accepted, only, joined, lastPart, placeIn, startState, stateIn, held, heldBy}
+use Rattle.session.specs.Offered.{Piece, isAccepted, only, joined, lastPart, placeIn, startState, stateIn, held, heldBy}
+use Rattle.session.proofs.Pieces.{afterPiece, afterAll, accepted}
 use Rattle.session.proofs.Refused.{Lawful, answerTo, accepted-answer, refused-session}
 use Rattle.session.proofs.Flat.{rows-flat, shaped-state}
 use Rattle.session.proofs.Joining.{moved-place, moved-state}

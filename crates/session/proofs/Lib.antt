@@ -1,6 +1,8 @@
 pub mod Parts
 pub mod Steps
+pub mod Pieces
 pub mod Refused
+pub mod Calls
 pub mod Joining
 pub mod Flat
 pub mod Held

@@ -19,7 +19,8 @@ use Rattle.places.specs.declared.Part.the-variants.{Note, Body, Trailer}
 use Rattle.places.specs.declared.Place.{Place}
 use Rattle.places.specs.Places.{rankOf, soundOf, sealExact}
 use Rattle.session.specs.Sessions.{Way, sealing, taken, endIf, readied, writtenAt, exactOf, Kind, stateOf, pieceOut}
-use Rattle.session.specs.Offered.{Piece, isAccepted, afterPiece, accepted, wrote, wroteAll, only, joined, placeIn, afterNote, stateIn}
+use Rattle.session.specs.Offered.{Piece, isAccepted, wrote, only, joined, placeIn, afterNote, stateIn}
+use Rattle.session.proofs.Pieces.{afterPiece, accepted, wroteAll}
 use Rattle.session.proofs.Joining.{unreached, some-bytes, text-more, ended-note}
 use Rattle.session.proofs.Refused.{Lawful, accepted-answer, refused-session}
 use Rattle.session.proofs.Held.{at, place-held, state-held, accepted-held, one-accepted, andPiece, accepted-list, refused-list}

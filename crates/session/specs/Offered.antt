@@ -1,13 +1,15 @@
--- Pieces offered to a session one after another: which are accepted, what they join to, and what a session that took them in holds.
+-- Calls on a session one after another, pieces and closes in any order: which pieces are accepted, what they join to, and what a session that took them in holds.
 -- Assumes nothing.
 use Prim.Native.Nat.{ℕ}
 use mathlib.Core.Bool.{Bool, cond}
 use mathlib.Core.List.{List, [], _∷_, _++_}
-use mathlib.Core.Option.{Option}
+use lib.Dec.{eqb}
 use lib.ListN.{length}
-use Rattle.norx.specs.Norx.{State, rowOf, headerMark, bodyMark, trailerMark, start, sealed, opened}
+use Rattle.norx.specs.Norx.{State, rowOf, headerMark, bodyMark, trailerMark, start}
 use Rattle.norx.specs.Stream.{fed, ended}
-use Rattle.answers.specs.Answers.{doneOf}
+use Rattle.norx.specs.Texts.{Bytes}
+use Rattle.answers.specs.Answers.{numberOf}
+use Rattle.places.specs.declared.terms.Edition.{Edition}
 use Rattle.places.specs.declared.terms.Terms.{Terms}
 use Rattle.places.specs.declared.Part.{Part}
 use Rattle.places.specs.declared.Part.the-variants.{Note, Body, Trailer}
@@ -15,45 +17,74 @@ use Rattle.places.specs.declared.Standing.the-variants.{Open}
 use Rattle.places.specs.declared.Label.{Label}
 use Rattle.places.specs.declared.Place.{Place}
 use Rattle.places.specs.Terms.{frontOf}
-use Rattle.session.specs.Sessions.{flatOf, taken, Kind, pieceOf, pieceOut}
+use Rattle.session.specs.Sessions.{Way, sealing, checking, flatOf, taken, Kind, pieceOf, pieceOut, closeOf, closeTag}
 
 -- a piece as it is offered, with the output lent to it
 pub record Piece : Type 0 where
   pub label : Label
   pub bytes : List ℕ
   pub out : List ℕ
+  pub are-bytes : Bytes bytes
 
--- ---- Offering, over the calls themselves
+-- a close as it is offered, with the tag lent to it: one to be checked, or a buffer for one
+pub record Close : Type 0 where
+  pub edition : Edition
+  pub tag : List ℕ
+  pub are-bytes : Bytes tag
+
+pub data Call : Type 0 where
+  piece : Piece → Call
+  close : Close → Call
+
+-- ---- One call
+
+-- what a tag that was lent holds where `own` is written: sealing writes it, checking only reads
+abbrev pub tagThen : Way → List ℕ → List ℕ → List ℕ
+tagThen sealing given own = own
+tagThen checking given own = given
 
 module _ (K : Kind) where
-  abbrev pub callOf : K .Session → Piece → K .Step
-  callOf s q = pieceOf K s (q .label) (q .bytes) (q .out)
+  abbrev pub stepOf : K .Session → Call → K .Step
+  stepOf s (piece q) = pieceOf K s (q .label) (q .bytes) (q .out)
+  stepOf s (close c) = closeOf K s (c .edition) (c .tag)
+
+  -- the number of its answer, and the session to go on with
+  abbrev pub numberTo : K .Session → Call → ℕ
+  numberTo s c = numberOf (K .answer (stepOf s c))
+
+  abbrev pub afterCall : K .Session → Call → K .Session
+  afterCall s c = K .next (stepOf s c)
+
+  -- what the buffer that it was lent holds then
+  abbrev pub lentAfter : K .Session → Call → List ℕ
+  lentAfter s (piece q) = pieceOut K s (q .label) (q .bytes) (q .out)
+  lentAfter s (close c) = tagThen (K .way) (c .tag) (closeTag K s (c .edition) (c .tag))
 
   -- whether a piece is answered 0
   abbrev pub isAccepted : K .Session → Piece → Bool
-  isAccepted s q = doneOf (K .answer (callOf s q))
+  isAccepted s q = eqb (numberTo s (piece q)) 0
 
-  abbrev pub afterPiece : K .Session → Piece → K .Session
-  afterPiece s q = K .next (callOf s q)
-
-  -- the session after all pieces of a list
-  abbrev pub afterAll : K .Session → List Piece → K .Session
-  afterAll s [] = s
-  afterAll s (q ∷ qs) = afterAll (afterPiece s q) qs
-
-  -- those of them that are accepted
-  abbrev pub accepted : K .Session → List Piece → List Piece
-  accepted s [] = []
-  accepted s (q ∷ qs) = cond (isAccepted s q) (q ∷ accepted (afterPiece s q) qs) (accepted (afterPiece s q) qs)
-
-  -- what the output of a piece holds where it is accepted
+  -- what its output holds where it is
   abbrev pub wrote : K .Session → Piece → List ℕ
-  wrote s q = cond (isAccepted s q) (pieceOut K s (q .label) (q .bytes) (q .out)) []
+  wrote s q = cond (isAccepted s q) (lentAfter s (piece q)) []
 
-  -- the same of all of them, joined
-  abbrev pub wroteAll : K .Session → List Piece → List ℕ
-  wroteAll s [] = []
-  wroteAll s (q ∷ qs) = wrote s q ++ wroteAll (afterPiece s q) qs
+  -- ---- Any list of calls
+
+  abbrev pub afterCalls : K .Session → List Call → K .Session
+  afterCalls s [] = s
+  afterCalls s (c ∷ cs) = afterCalls (afterCall s c) cs
+
+  -- the pieces that are accepted
+  abbrev pub acceptedIn : K .Session → List Call → List Piece
+  acceptedIn s [] = []
+  acceptedIn s (piece q ∷ cs) = cond (isAccepted s q) (q ∷ acceptedIn (afterCall s (piece q)) cs) (acceptedIn (afterCall s (piece q)) cs)
+  acceptedIn s (close c ∷ cs) = acceptedIn (afterCall s (close c)) cs
+
+  -- what their outputs hold, joined
+  abbrev pub wroteIn : K .Session → List Call → List ℕ
+  wroteIn s [] = []
+  wroteIn s (piece q ∷ cs) = wrote s q ++ wroteIn (afterCall s (piece q)) cs
+  wroteIn s (close c ∷ cs) = wroteIn (afterCall s (close c)) cs
 
 -- ---- Pieces joined part by part
 
@@ -119,10 +150,3 @@ module _ (K : Kind) (key nonce : List ℕ) (T : Terms) where
   -- the same of a list of accepted pieces
   abbrev pub heldBy : List Piece → K .Session
   heldBy qs = held (lastPart Note qs) (joined Note qs) (joined Body qs) (joined Trailer qs)
-
-  -- one sealing of joined parts, and one opening
-  abbrev pub sealedAsOne : List ℕ → List ℕ → List ℕ → List ℕ
-  sealedAsOne note body trailer = sealed (K .width) (T .rounds) (K .tagBits) key nonce (headerOf T note) body trailer
-
-  abbrev pub openedAsOne : List ℕ → List ℕ → List ℕ → Option (List ℕ)
-  openedAsOne note text trailer = opened (K .width) (T .rounds) (K .tagBits) key nonce (headerOf T note) text trailer

@@ -1,88 +1,158 @@
--- Demand 3 over a kind of session, stated of any list of pieces that is offered after a start that is answered 0.
+-- Demands 1 and 3 over a kind of session, in numbers and bytes. Demand 3 is stated of any list of calls after a start that is answered 0, pieces and closes in any
+-- order, where the session is still open behind them.
 -- Assumes nothing.
-use Prim.Native.Nat.{ℕ, _<_}
+use Prim.Native.Nat.{ℕ, _+_}
 use mathlib.Core.Path.{_≡_}
-use mathlib.Core.Bool.{true, false}
-use mathlib.Core.List.{List, [], _∷_, _++_}
-use lib.ListN.{length, getD}
-use Rattle.answers.specs.declared.Answer.the-variants.{Done}
-use Rattle.answers.specs.Answers.{doneOf}
-use Rattle.rules.specs.Calls.{answerOf}
+use mathlib.Core.Logic.{_⊎_, _↔_, _≢_}
+use mathlib.Core.List.{List, _++_, map}
+use lib.ListN.{length}
+use Rattle.norx.specs.Norx.{sealed}
+use Rattle.norx.specs.Texts.{SealsTo}
+use Rattle.answers.specs.Answers.{numberOf}
+use Rattle.rules.specs.Limits.{widthsLength, StartLimits, PartLimits}
+use Rattle.rules.specs.OneCall.{sealAnswer, sealOut, openAnswer}
 use Rattle.places.specs.declared.terms.Terms.{Terms}
 use Rattle.places.specs.declared.Part.{Part}
 use Rattle.places.specs.declared.Part.the-variants.{Note, Body, Trailer}
-use Rattle.session.specs.Sessions.{Kind, tagLength, startOf, pieceOut, closeOf, closeTag}
-use Rattle.session.specs.Offered.{Piece, isAccepted, afterPiece, afterAll, accepted, wroteAll, joined, heldBy, sealedAsOne, openedAsOne}
+use Rattle.places.specs.declared.Standing.the-variants.{Closed, Open}
+use Rattle.session.specs.Sessions.{Kind, closedOf, startOf}
+use Rattle.session.specs.Offered.{Piece, Close, Call, piece, close, numberTo, afterCall, lentAfter, afterCalls, acceptedIn, wroteIn, joined, headerOf, heldBy}
 
--- every piece is bytes, as a lent slice is
-abbrev pub AreBytes : List Piece → Type 0
-AreBytes [] = Unit {0}
-AreBytes (q ∷ qs) = ((i : ℕ) → getD (q .bytes) i 0 < 256) × AreBytes qs
+-- the buffer that is lent to a call
+abbrev pub lent : Call → List ℕ
+lent (piece q) = q .out
+lent (close c) = c .tag
+
+module _ (K : Kind) where
+  abbrev pub StillOpen : K .Session → Type 0
+  StillOpen s = K .place s .standing ≢ Closed
+
+-- ---- Demand 1, of any session at all
+
+module _ (K : Kind) where
+  -- an answer that is neither 0 nor 10 gives back the session and the buffer as they were
+  abbrev pub RefusalChangesNothing : Type 0
+  RefusalChangesNothing =
+      (s : K .Session) (c : Call) → numberTo K s c ≢ 0 → numberTo K s c ≢ 10 → (afterCall K s c ≡ s) × (lentAfter K s c ≡ lent c)
+
+  -- a close that is answered 0 or 10 gives back the closed session
+  abbrev pub CloseEnds : Type 0
+  CloseEnds = (s : K .Session) (c : Close) → (numberTo K s (close c) ≡ 0) ⊎ (numberTo K s (close c) ≡ 10) → afterCall K s (close c) ≡ closedOf K
+
+  -- that one is closed, and a closed session refuses every call with 9
+  abbrev pub ClosedRefuses : Type 0
+  ClosedRefuses = (K .place (closedOf K) .standing ≡ Closed) × ((s : K .Session) → K .place s .standing ≡ Closed → (c : Call) → numberTo K s c ≡ 9)
+
+-- ---- A start
 
 module _ (K : Kind) (key nonce : List ℕ) (T : Terms) where
   abbrev pub Started : Type 0
-  Started = doneOf (K .answer (startOf K key nonce T)) ≡ true
+  Started = numberOf (K .answer (startOf K key nonce T)) ≡ 0
 
-  -- the session that a start gives
+  -- the session that it gives
   abbrev pub begun : K .Session
   begun = K .next (startOf K key nonce T)
 
-  module _ (qs : List Piece) where
-    -- that session once these pieces were offered to it
-    abbrev pub sessionAfter : K .Session
-    sessionAfter = afterAll K begun qs
+module _ (K : Kind) where
+  -- it is answered 0 exactly where the limits are kept, and gives back the closed session where it is refused
+  abbrev pub StartsWithinLimits : Type 0
+  StartsWithinLimits =
+      (key nonce : List ℕ) (T : Terms)
+      → (Started K key nonce T ↔ StartLimits (K .width) (T .rounds) (length key) (length nonce)) × ((Started K key nonce T → ⊥) → begun K key nonce T ≡ closedOf K)
 
-    -- those of them that it accepted, and their bytes of one part, joined
-    abbrev pub acceptedPieces : List Piece
-    acceptedPieces = accepted K begun qs
+-- ---- Demand 3
 
-    abbrev pub joinedPart : Part → List ℕ
-    joinedPart part = joined part acceptedPieces
+module _ (K : Kind) (key nonce : List ℕ) (T : Terms) (cs : List Call) where
+  -- the session that a start gave, once these calls were made on it
+  abbrev pub sessionAfter : K .Session
+  sessionAfter = afterCalls K (begun K key nonce T) cs
 
-    -- its close under its own edition is answered 0, and the ciphertext written, joined, with the tag is one sealing of the joined accepted pieces
-    abbrev pub SealsAsOne : List ℕ → Type 0
-    SealsAsOne tag =
-        (K .answer (closeOf K sessionAfter (T .edition) tag) ≡ Done)
-        × (wroteAll K begun qs ++ closeTag K sessionAfter (T .edition) tag ≡ sealedAsOne K key nonce T (joinedPart Note) (joinedPart Body) (joinedPart Trailer))
+  -- the pieces that it accepted, and their bytes of one part, joined
+  abbrev pub acceptedPieces : List Piece
+  acceptedPieces = acceptedIn K (begun K key nonce T) cs
 
-    -- its close under its own edition answers as one opening of the joined accepted pieces and the tag does: 0 where it gives a message, 10 where it gives none
-    abbrev pub ChecksAsOne : List ℕ → Type 0
-    ChecksAsOne tag =
-        K .answer (closeOf K sessionAfter (T .edition) tag) ≡ answerOf (openedAsOne K key nonce T (joinedPart Note) (joinedPart Body ++ tag) (joinedPart Trailer))
+  abbrev pub joinedPart : Part → List ℕ
+  joinedPart part = joined part acceptedPieces
+
+  -- the header of one sealing of them: the front, and the joined note
+  abbrev pub joinedHeader : List ℕ
+  joinedHeader = headerOf T (joinedPart Note)
+
+module _ (K : Kind) (key nonce : List ℕ) (T : Terms) (header body trailer : List ℕ) where
+  -- a close that is answered so, where the ciphertext that was written, with the tag, is `text`, completes one sealing
+  pub record CompletesOneSealing (answer : ℕ) (text : List ℕ) : Type 0 where
+    pub answered : answer ≡ 0
+    -- the text is what NORX 3.0 defines
+    pub as-defined : text ≡ sealed (K .width) (T .rounds) (K .tagBits) key nonce header body trailer
+    -- and what `seal` writes in one call, answered 0, to an output of the exact length
+    pub as-one-call : (out : List ℕ) → length out ≡ length body + widthsLength (K .width)
+        → (numberOf (sealAnswer (K .width) (T .rounds) key nonce header body trailer out) ≡ 0) × (sealOut (K .width) (T .rounds) key nonce header body trailer out ≡ text)
+
+  -- M is a message that seals to the ciphertext `body` and a tag
+  abbrev pub MessageOf : List ℕ → List ℕ → Type 0
+  MessageOf tag M = SealsTo (K .width) (T .rounds) (K .tagBits) key nonce header trailer (body ++ tag) M
+
+  -- a close that is answered so says what one opening says
+  pub record AnswersOneOpening (answer : ℕ) (tag : List ℕ) : Type 0 where
+    -- yes exactly when there is such a message, and no exactly when there is none
+    pub yes : (answer ≡ 0) ↔ ((M : List ℕ) × MessageOf tag M)
+    pub no : (answer ≡ 10) ↔ ((M : List ℕ) → MessageOf tag M → ⊥)
+    -- which is what `open` answers in one call with an output of the exact length
+    pub as-one-call : (out : List ℕ) → length out ≡ length body → answer ≡ numberOf (openAnswer (K .width) (T .rounds) key nonce header (body ++ tag) trailer out)
 
 module _ (K : Kind) where
-  -- the session held is the one of the accepted pieces joined part by part
+  -- the session is the one of the accepted pieces joined part by part
   abbrev pub OneSession : Type 0
   OneSession =
-      (key nonce : List ℕ) (T : Terms) → Started K key nonce T → (qs : List Piece)
-      → sessionAfter K key nonce T qs ≡ heldBy K key nonce T (acceptedPieces K key nonce T qs)
+      (key nonce : List ℕ) (T : Terms) → Started K key nonce T → (cs : List Call) → StillOpen K (sessionAfter K key nonce T cs)
+      → sessionAfter K key nonce T cs ≡ heldBy K key nonce T (acceptedPieces K key nonce T cs)
 
-  -- two sessions begun alike, in the same part, with the same joined pieces, are equal
+  -- two sessions begun alike, still open, in the same part, with the same joined pieces, are equal
   abbrev pub Alike : Type 0
   Alike =
-      (key nonce : List ℕ) (T : Terms) → Started K key nonce T → (qs qs′ : List Piece)
-      → K .place (sessionAfter K key nonce T qs) .standing ≡ K .place (sessionAfter K key nonce T qs′) .standing
-      → ((part : Part) → joinedPart K key nonce T qs part ≡ joinedPart K key nonce T qs′ part)
-      → sessionAfter K key nonce T qs ≡ sessionAfter K key nonce T qs′
+      (key nonce : List ℕ) (T : Terms) → Started K key nonce T → (cs cs′ : List Call) (part : Part)
+      → K .place (sessionAfter K key nonce T cs) .standing ≡ Open part → K .place (sessionAfter K key nonce T cs′) .standing ≡ Open part
+      → ((k : Part) → joinedPart K key nonce T cs k ≡ joinedPart K key nonce T cs′ k)
+      → sessionAfter K key nonce T cs ≡ sessionAfter K key nonce T cs′
 
-  -- with a tag buffer of the right length, the close of a sealing session completes one sealing
-  abbrev pub OneSealing : Type 0
-  OneSealing =
-      (key nonce : List ℕ) (T : Terms) → Started K key nonce T → (qs : List Piece) → AreBytes qs
-      → (tag : List ℕ) → length tag ≡ tagLength K → SealsAsOne K key nonce T qs tag
+  -- the joined parts are within the limits of one call
+  abbrev pub WithinOneCall : Type 0
+  WithinOneCall =
+      (key nonce : List ℕ) (T : Terms) → Started K key nonce T → (cs : List Call) → StillOpen K (sessionAfter K key nonce T cs)
+      → PartLimits (length (joinedHeader K key nonce T cs)) (length (joinedPart K key nonce T cs Body)) (length (joinedPart K key nonce T cs Trailer))
 
-  -- with a tag of the right length, the close of a checking session answers as one opening
-  abbrev pub OneOpening : Type 0
-  OneOpening =
-      (key nonce : List ℕ) (T : Terms) → Started K key nonce T → (qs : List Piece) → AreBytes qs
-      → (tag : List ℕ) → length tag ≡ tagLength K → ChecksAsOne K key nonce T qs tag
-
-  -- a refused piece changes no session and no output, of any session at all
-  abbrev pub RefusalChangesNothing : Type 0
-  RefusalChangesNothing =
-      (s : K .Session) (q : Piece) → isAccepted K s q ≡ false → (afterPiece K s q ≡ s) × (pieceOut K s (q .label) (q .bytes) (q .out) ≡ q .out)
-
-  -- a list with refused pieces gives what the list without them gives
+  -- refused calls between them change nothing: the accepted pieces alone give the same
   abbrev pub WithoutRefused : Type 0
   WithoutRefused =
-      (s : K .Session) (qs : List Piece) → (afterAll K s qs ≡ afterAll K s (accepted K s qs)) × (wroteAll K s qs ≡ wroteAll K s (accepted K s qs))
+      (s : K .Session) (cs : List Call) → StillOpen K (afterCalls K s cs)
+      → (afterCalls K s cs ≡ afterCalls K s (map piece (acceptedIn K s cs))) × (wroteIn K s cs ≡ wroteIn K s (map piece (acceptedIn K s cs)))
+
+  -- a session still open is closed under its own edition with a tag of the right length
+  abbrev pub OwnClose : (key nonce : List ℕ) (T : Terms) → List Call → Close → Type 0
+  OwnClose key nonce T cs c = StillOpen K (sessionAfter K key nonce T cs) × (c .edition ≡ T .edition) × (length (c .tag) ≡ widthsLength (K .width))
+
+  -- the close of a sealing session completes one sealing of the joined pieces
+  abbrev pub OneSealing : Type 0
+  OneSealing =
+      (key nonce : List ℕ) (T : Terms) → Started K key nonce T → (cs : List Call) (c : Close) → OwnClose key nonce T cs c
+      → CompletesOneSealing K key nonce T (joinedHeader K key nonce T cs) (joinedPart K key nonce T cs Body) (joinedPart K key nonce T cs Trailer)
+      (numberTo K (sessionAfter K key nonce T cs) (close c))
+      (wroteIn K (begun K key nonce T) cs ++ lentAfter K (sessionAfter K key nonce T cs) (close c))
+
+  -- the close of a checking session says what one opening of the joined pieces and the tag says
+  abbrev pub OneOpening : Type 0
+  OneOpening =
+      (key nonce : List ℕ) (T : Terms) → Started K key nonce T → (cs : List Call) (c : Close) → OwnClose key nonce T cs c
+      → AnswersOneOpening K key nonce T (joinedHeader K key nonce T cs) (joinedPart K key nonce T cs Body) (joinedPart K key nonce T cs Trailer)
+      (numberTo K (sessionAfter K key nonce T cs) (close c)) (c .tag)
+
+-- what is promised of every kind
+pub record Promised (K : Kind) : Type 0 where
+  pub starts : StartsWithinLimits K
+  pub refused : RefusalChangesNothing K
+  pub close-ends : CloseEnds K
+  pub closed-refuses : ClosedRefuses K
+  pub one-session : OneSession K
+  pub alike : Alike K
+  pub within : WithinOneCall K
+  pub without-refused : WithoutRefused K

@@ -3,10 +3,12 @@
 use borrow.Author.Needs.{needs}
 use lib.ListN.{length}
 use Rattle.norx.specs.Norx.{word64, rowBytes}
+use Rattle.norx.specs.Texts.{Bytes}
 use Rattle.answers.proofs.Chain.{tested}
 use Rattle.rules.specs.Rules.{tagBytes}
 use Rattle.rules.proofs.Lengths.{open-exact}
-use Rattle.sealing.specs.Calls.{openAnswer, openOut}
+use Rattle.rules.specs.OneCall.{openAnswer, openOut}
+use Rattle.sealing.proofs.Demand.{open-ensures}
 use Rattle.sealing.proofs.w64.open.Statement.{statement}
 use Rattle.sealing.proofs.w64.open.Tie as tie
 
@@ -23,14 +25,20 @@ unfolding openAnswer openOut
 returns c =
     let check = c .before .before .before .before .before .before in
     let e = tested (check .open-checks .ensures) (c .before .before .before .before .before .done .ensures) (c .before .before .before .before .if1 .taken) in
-    (rw e (c .before .before .open-checked .ensures .0), rw e (c .before .before .open-checked .ensures .1))
+    let x = check .before .before .before .before .before .before .before .args in
+    let bytes : Bytes (x .sealed .now) = λ i. check .before .before .before .shared-slice-known4 .given i .fits in
+    open-ensures word64 (x .rounds) (x .key .now) (x .nonce .now) (x .header .now) (x .sealed .now) (x .trailer .now) (x .out .now) bytes
+    (rw e (c .before .before .open-checked .ensures .0)) (rw e (c .before .before .open-checked .ensures .1))
 
 returns-2 : tie.Need-returns-2
 unfolding openAnswer openOut
 returns-2 c =
     let check = c .before .before in
     let e = tested (check .open-checks .ensures) (c .before .done .ensures) (c .if1 .left) in
-    (rw e (check .open-checks .ensures), rw e)
+    let x = check .before .before .before .before .before .before .before .args in
+    let bytes : Bytes (x .sealed .now) = λ i. check .before .before .before .shared-slice-known4 .given i .fits in
+    open-ensures word64 (x .rounds) (x .key .now) (x .nonce .now) (x .header .now) (x .sealed .now) (x .trailer .now) (x .out .now) bytes
+    (rw e (check .open-checks .ensures)) (rw e)
 
 pub open-spec : {M : Type 1} → statement M
 open-spec =

@@ -1,0 +1,64 @@
+-- Demands 1 and 2 of sealing and opening in one call, in numbers and bytes: what a caller may rely on, of a call as it was made.
+-- `text` is the body in sealing and the sealed text in opening; `before` and `after` are what the output held when the call came and when it ended.
+-- Assumes nothing.
+use mathlib.Core.Path.{_≡_}
+use mathlib.Core.Logic.{_⊎_, _↔_, _≢_}
+use mathlib.Core.List.{List}
+use Prim.Native.Nat.{ℕ}
+use lib.ListN.{length, replicate}
+use Rattle.norx.specs.Norx.{Width, bits, tagBits, sealed}
+use Rattle.norx.specs.Texts.{SealsTo}
+use Rattle.rules.specs.Limits.{SealLimits, OpenLimits}
+
+-- ---- Demand 1
+
+-- an answer that is neither 0 nor 10 leaves every byte as it was, and 10 leaves zeros
+pub record LeavesBytes (before : List ℕ) (answer : ℕ) (after : List ℕ) : Type 0 where
+  pub kept : answer ≢ 0 → answer ≢ 10 → after ≡ before
+  pub zeroed : answer ≡ 10 → after ≡ replicate (length before) 0
+
+-- ---- Demand 2
+
+module _ (w : Width) (l : ℕ) (key nonce header text trailer before : List ℕ) where
+  abbrev pub MaySeal : Type 0
+  MaySeal = SealLimits w l (length key) (length nonce) (length header) (length text) (length trailer) (length before)
+
+  abbrev pub MayOpen : Type 0
+  MayOpen = OpenLimits w l (length key) (length nonce) (length header) (length text) (length trailer) (length before)
+
+module _ (w : Width) (l : ℕ) (key nonce header text trailer before : List ℕ) (answer : ℕ) (after : List ℕ) where
+  pub record Seals : Type 0 where
+    -- where the limits are kept the answer is 0, and the output is what NORX 3.0 defines
+    pub sealed-there : MaySeal w l key nonce header text trailer before → (answer ≡ 0) × (after ≡ sealed w l (tagBits w) key nonce header text trailer)
+    -- 0 is answered nowhere else, and 10 nowhere
+    pub only-there : answer ≡ 0 → MaySeal w l key nonce header text trailer before
+    pub no-tag-looked-at : answer ≢ 10
+    pub leaves : LeavesBytes before answer after
+
+  pub record Opens : Type 0 where
+    -- where the limits are kept a message is handed out, with 0, exactly when it seals to the text
+    pub handed-out : MayOpen w l key nonce header text trailer before
+        → (M : List ℕ) → ((answer ≡ 0) × (after ≡ M)) ↔ SealsTo w l (tagBits w) key nonce header trailer text M
+    -- and the text is refused, with 10 and zeros, exactly when no message does
+    pub refused : MayOpen w l key nonce header text trailer before
+        → ((answer ≡ 10) × (after ≡ replicate (length before) 0)) ↔ ((M : List ℕ) → SealsTo w l (tagBits w) key nonce header trailer text M → ⊥)
+    -- 0 and 10 are answered nowhere else
+    pub only-there : (answer ≡ 0) ⊎ (answer ≡ 10) → MayOpen w l key nonce header text trailer before
+    pub leaves : LeavesBytes before answer after
+
+-- ---- The same where the width is given as a number
+
+-- 11 exactly where it is neither 32 nor 64
+abbrev pub NoWidth : ℕ → ℕ → Type 0
+NoWidth width answer = (answer ≡ 11) ↔ ((width ≢ 32) × (width ≢ 64))
+
+module _ (width l : ℕ) (key nonce header text trailer before : List ℕ) (answer : ℕ) (after : List ℕ) where
+  pub record SealsAt : Type 0 where
+    pub at-width : (w : Width) → width ≡ bits w → Seals w l key nonce header text trailer before answer after
+    pub no-width : NoWidth width answer
+    pub leaves : LeavesBytes before answer after
+
+  pub record OpensAt : Type 0 where
+    pub at-width : (w : Width) → width ≡ bits w → Opens w l key nonce header text trailer before answer after
+    pub no-width : NoWidth width answer
+    pub leaves : LeavesBytes before answer after
