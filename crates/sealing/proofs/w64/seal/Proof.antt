@@ -1,44 +1,46 @@
 -- `sealing::w64::seal` goes by its checks.
 -- Assumes nothing.
 use borrow.Author.Needs.{needs}
+use borrow.Author.Tests.{not-true, not-false}
 use lib.ListN.{length}
 use Rattle.norx.specs.Norx.{word64, rowBytes}
 use Rattle.answers.proofs.Chain.{tested}
 use Rattle.rules.specs.Rules.{tagBytes}
-use Rattle.rules.proofs.Lengths.{seal-exact}
 use Rattle.rules.specs.OneCall.{sealAnswer, sealOut}
+use Rattle.rules.proofs.Lengths.{seal-exact}
 use Rattle.sealing.proofs.Demand.{seal-ensures}
 use Rattle.sealing.proofs.w64.seal.Statement.{statement}
 use Rattle.sealing.proofs.w64.seal.Tie as tie
+
+-- nothing is done only where the checks refuse
+returns : tie.Need-returns
+unfolding sealAnswer sealOut
+returns c =
+    let check = c .before .before in
+    let e = tested (check .seal-checks .ensures) (c .before .done .ensures) (not-true _ (c .if1 .taken)) in
+    let x = check .before .before .before .before .before .before .before .args in
+    seal-ensures word64 (x .rounds) (x .key .now) (x .nonce .now) (x .header .now) (x .body .now) (x .trailer .now) (x .out .now)
+    (check .seal-checks .ensures) (rw e)
 
 seal-checked-requires : tie.Need-seal-checked-requires
 seal-checked-requires c κs =
     let check = c .before .before .before in
     let x = check .before .before .before .before .before .before .before .args in
-    let e = tested (check .seal-checks .ensures) (c .before .before .done .ensures) (c .before .if1 .taken) in
+    let e = tested (check .seal-checks .ensures) (c .before .before .done .ensures) (not-false _ (c .before .if1 .left)) in
     seal-exact (rowBytes word64) (tagBytes word64) (x .rounds) (length (x .key .now)) (length (x .nonce .now)) (length (x .header .now))
     (length (x .body .now)) (length (x .trailer .now)) (length (x .out .now)) e
-
-returns : tie.Need-returns
-unfolding sealAnswer sealOut
-returns c =
-    let check = c .before .before .before .before .before .before in
-    let e = tested (check .seal-checks .ensures) (c .before .before .before .before .before .done .ensures) (c .before .before .before .before .if1 .taken) in
-    let x = check .before .before .before .before .before .before .before .args in
-    seal-ensures word64 (x .rounds) (x .key .now) (x .nonce .now) (x .header .now) (x .body .now) (x .trailer .now) (x .out .now)
-    (check .seal-checks .ensures) (rw e (c .before .before .seal-checked .ensures))
 
 returns-2 : tie.Need-returns-2
 unfolding sealAnswer sealOut
 returns-2 c =
-    let check = c .before .before in
-    let e = tested (check .seal-checks .ensures) (c .before .done .ensures) (c .if1 .left) in
+    let check = c .before .before .before .before .before .before in
+    let e = tested (check .seal-checks .ensures) (c .before .before .before .before .before .done .ensures) (not-false _ (c .before .before .before .before .if1 .left)) in
     let x = check .before .before .before .before .before .before .before .args in
     seal-ensures word64 (x .rounds) (x .key .now) (x .nonce .now) (x .header .now) (x .body .now) (x .trailer .now) (x .out .now)
-    (check .seal-checks .ensures) (rw e)
+    (check .seal-checks .ensures) (rw e (c .before .before .seal-checked .ensures))
 
 pub seal-spec : {M : Type 1} → statement M
 seal-spec =
     tie.close
     (tie.spec
-    (λ c κs. search needs) (λ c κs. search needs) seal-checked-requires (λ c. search needs) returns returns-2)
+    (λ c κs. search needs) (λ c κs. search needs) returns seal-checked-requires (λ c. search needs) returns-2)
