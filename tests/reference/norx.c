@@ -38,17 +38,11 @@ struct request {
 /* Only inlined do the words of a local state stay in registers. */
 #define INLINE static inline __attribute__((always_inline))
 
-/* Each table is the second half of two rounds applied to the state 0, 1, ..., 15. */
-
 #define WIDTH 32
 #define ROTATION_0 8
 #define ROTATION_1 11
 #define ROTATION_2 16
 #define ROTATION_3 31
-#define START_CONSTANTS                                                                                       \
-    {                                                                                                         \
-        0xa3d8d930, 0x3fa8b72c, 0xed84eb49, 0xedca4787, 0x335463eb, 0xf994220b, 0xbe0bf5c9, 0xd7c49104        \
-    }
 #include "norx_width.inc"
 
 #define WIDTH 64
@@ -56,11 +50,6 @@ struct request {
 #define ROTATION_1 19
 #define ROTATION_2 40
 #define ROTATION_3 63
-#define START_CONSTANTS                                                                                       \
-    {                                                                                                         \
-        0xb15e641748de5e6b, 0xaa95e955e10f8410, 0x28d1034441a9dd40, 0x7f31bbf964e93bf5, 0xb5e9e22493dffb96,   \
-            0xb980c852479fafbd, 0xda24516bf55eafd4, 0x86026ae8536f1501                                        \
-    }
 #include "norx_width.inc"
 
 static size_t tag_length(uint32_t width)
