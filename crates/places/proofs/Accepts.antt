@@ -5,7 +5,7 @@ use mathlib.Core.Bool.{Bool, true, false, _&&_, false≢true}
 use mathlib.Core.Logic.{_↔_, _≢_}
 use Prim.Native.Nat.{ℕ, _+_, _≤_}
 use native.Mathlib.Omega.{arith}
-use borrow.Author.Tests.{leb-true, eqb-true, eq-eqb}
+use borrow.Author.Tests.{leb-true, le-leb, eqb-true, eq-eqb}
 use lib.Dec.{leb, eqb}
 use Rattle.norx.specs.Norx.{Width, rowBytes}
 use Rattle.answers.specs.declared.Answer.the-variants.{Done, KeyLength, RoundsNumber, TagLength, OverLimit, NotSound}
@@ -24,7 +24,7 @@ use Rattle.places.specs.declared.Standing.the-variants.{Closed, Open}
 use Rattle.places.specs.declared.Place.{Place}
 use Rattle.places.specs.Terms.{termsOk}
 use Rattle.places.specs.Places.{rankOf, presentOf, limitOf, countOf, moved, countsWithin, unreachedOf, soundAt, soundOf, startAnswer, pieceAnswer, closeAnswer, Accepted}
-use Rattle.places.proofs.Editions.{edition-passed, edition-own, edition-not}
+use Rattle.places.proofs.Editions.{edition-passed, edition-same, edition-own, edition-not}
 
 within-at : (s : Standing) (p : Place) → soundAt s p ≡ true → countsWithin p ≡ true
 within-at Closed p e = absurd (false≢true e)
@@ -88,12 +88,40 @@ accepted p label n exact h =
       fits = passed _ _ _ refl (room .1) .0;
     }
 
+-- and it is of the session's own edition, at the accepted count of its part
+pub accepted-own : (p : Place) (label : Label) (n : ℕ) (exact : Bool) → doneOf (pieceAnswer p label n exact) ≡ true → label .edition ≡ p .terms .edition
+unfolding pieceAnswer
+accepted-own p label n exact h = edition-same (label .edition) (p .terms .edition) _ (passed _ _ _ refl h .1)
+
+pub accepted-at : (p : Place) (label : Label) (n : ℕ) (exact : Bool) → doneOf (pieceAnswer p label n exact) ≡ true → label .offset ≡ countOf p (label .part)
+unfolding pieceAnswer
+accepted-at p label n exact h =
+    let sound = passed _ _ _ refl h in
+    let onward = passed _ _ _ refl (edition-passed (label .edition) (p .terms .edition) _ (sound .1)) in
+    eqb-true _ _ (passed _ _ _ refl (onward .1) .0)
+
+-- a piece of which all that holds is accepted
+pub accepts : (p : Place) (label : Label) (n : ℕ) (exact : Bool) → soundOf p ≡ true → label .edition ≡ p .terms .edition
+    → leb (presentOf (p .standing)) (rankOf (label .part)) ≡ true → label .offset ≡ countOf p (label .part) → countOf p (label .part) + n ≤ limitOf (label .part)
+    → exact ≡ true → pieceAnswer p label n exact ≡ Done
+unfolding pieceAnswer needOf
+accepts p label n exact sound own onward at room fits =
+    let here : eqb (label .offset) (countOf p (label .part)) ≡ true = eq-eqb _ _ at in
+    let enough : leb (countOf p (label .part) + n) (limitOf (label .part)) ≡ true = le-leb _ _ room in
+    rw (sound, own, edition-own (p .terms .edition), onward, here, enough, fits)
+
 pub closable : (p : Place) (edition : Edition) (wanted tag : ℕ) → doneOf (closeAnswer p edition wanted tag) ≡ true → (p .note ≤ limitOf Note) × (tag ≡ wanted)
 unfolding closeAnswer
 closable p edition wanted tag h =
     let sound = passed _ _ _ refl h in
     let within = passed _ _ _ refl (edition-passed edition (p .terms .edition) _ (sound .1)) in
     (sound-noted p (sound .0), eqb-true tag wanted (passed _ _ _ refl (within .1) .0))
+
+pub closable-own : (p : Place) (edition : Edition) (wanted tag : ℕ) → doneOf (closeAnswer p edition wanted tag) ≡ true → (soundOf p ≡ true) × (edition ≡ p .terms .edition)
+unfolding closeAnswer
+closable-own p edition wanted tag h =
+    let sound = passed _ _ _ refl h in
+    (sound .0, edition-same edition (p .terms .edition) _ (sound .1))
 
 -- ---- a place stays sound
 
@@ -156,7 +184,7 @@ close-no-tag p edition wanted tag =
 closed-at : (s : Standing) (p : Place) → s ≡ Closed → soundAt s p ≡ false
 closed-at s p e = ap (λ (z : Standing). soundAt z p) e
 
-closed-unsound : (p : Place) → p .standing ≡ Closed → soundOf p ≡ false
+pub closed-unsound : (p : Place) → p .standing ≡ Closed → soundOf p ≡ false
 unfolding soundOf
 closed-unsound p e = closed-at (p .standing) p e
 

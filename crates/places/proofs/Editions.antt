@@ -4,7 +4,7 @@ use mathlib.Core.Path.{_≡_, refl}
 use mathlib.Core.Bool.{true}
 use mathlib.Core.Logic.{_≢_}
 use native.Mathlib.Omega.{arith}
-use borrow.Author.Tests.{eq-eqb}
+use borrow.Author.Tests.{eq-eqb, eqb-true}
 use lib.Dec.{eqb}
 use lib.ListN.{length}
 use Rattle.norx.specs.Norx.{bytesOf}
@@ -21,6 +21,13 @@ use Rattle.places.specs.Terms.{ofEdition, frontOf}
 pub edition-passed : (given own : Edition) (rest : Answer) → doneOf (ofEdition given own rest) ≡ true → doneOf rest ≡ true
 unfolding ofEdition
 edition-passed given own rest h = passed _ _ _ refl h .1
+
+-- and the two editions are one
+pub edition-same : (given own : Edition) (rest : Answer) → doneOf (ofEdition given own rest) ≡ true → given ≡ own
+unfolding ofEdition
+edition-same given own rest h =
+    let revisions : given .revision ≡ own .revision = eqb-true (given .revision) (own .revision) (passed _ _ _ refl h .0) in
+    λ i. record { revision = revisions i }
 
 -- it answers 6 or what the rest answers
 pub edition-not : (given own : Edition) (rest : Answer) → numberOf rest ≢ 10 → numberOf (ofEdition given own rest) ≢ 10

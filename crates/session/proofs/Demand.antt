@@ -1,13 +1,13 @@
 -- Demand 3, once over the kind of session: of any list of pieces offered after a start that was answered 0, and so of any list of calls behind which it is still open.
 -- Assumes nothing.
 use mathlib.Core.Path.{_≡_, refl, sym, ap, ap₂, _∙_}
-use mathlib.Core.Bool.{Bool, true, false, cond}
-use mathlib.Core.Logic.{_↔_}
+use mathlib.Core.Bool.{Bool, true, false, cond, false≢true}
+use mathlib.Core.Logic.{_⊎_, ⊎-elim, _↔_}
 use mathlib.Core.List.{List, [], _∷_, _++_}
 use mathlib.Core.Option.{none, some}
 use Prim.Native.Nat.{ℕ, _-_, _/_, _≤_}
 use native.Mathlib.Omega.{arith}
-use borrow.Author.Tests.{le-leb, ne-eqb}
+use borrow.Author.Tests.{le-leb, leb-true, eq-eqb, eqb-true, ne-eqb}
 use lib.ListN.{length, length-append}
 use lib.Seq.{take-at, drop-at}
 use Rattle.norx.specs.Norx.{rowBytes, rowOf, ciphertext, message, sealed, same, bodyPart, tagPart, recovered, opened}
@@ -15,7 +15,7 @@ use Rattle.norx.specs.Stream.{fedText}
 use Rattle.norx.proofs.Bytes.{Bytes, bytes-nil, bytes-append}
 use Rattle.answers.specs.declared.Answer.the-variants.{Done, TagDiffers}
 use Rattle.answers.specs.Answers.{numberOf, doneOf, needOf}
-use Rattle.answers.proofs.Tests.{cond-true, cond-false}
+use Rattle.answers.proofs.Tests.{either, cond-true, cond-false}
 use Rattle.answers.proofs.Chain.{zero-done}
 use Rattle.rules.specs.Rules.{longestNote}
 use Rattle.rules.specs.Calls.{answerOf}
@@ -23,22 +23,23 @@ use Rattle.rules.specs.Limits.{widthsLength, StartLimits, PartLimits, OpenLimit
 use Rattle.rules.proofs.Lengths.{tag-fits}
 use Rattle.rules.proofs.Limits.{tag-long}
 use Rattle.rules.proofs.OneCall.{some-message, no-message, seal-done, open-done}
+use Rattle.places.specs.declared.terms.Edition.{Edition}
 use Rattle.places.specs.declared.terms.Terms.{Terms}
 use Rattle.places.specs.declared.Part.{Part}
 use Rattle.places.specs.declared.Part.the-variants.{Note, Body, Trailer}
 use Rattle.places.specs.declared.Standing.{Standing}
 use Rattle.places.specs.declared.Standing.the-variants.{Closed, Open}
 use Rattle.places.specs.declared.Place.{Place}
-use Rattle.places.specs.Places.{soundAt, soundOf, startAnswer, closeAnswer}
-use Rattle.places.proofs.Accepts.{startable, start-limits, sound-counts, moved-sound, sound-closes}
-use Rattle.session.specs.Sessions.{Way, sealing, checking, verdictOf, Kind, closedOf, stateOf, tagLength, freshOf, startOf, tagAt, ownTag, closeAnswerOf, closeOf, closeTag}
-use Rattle.session.specs.Offered.{Piece, Call, tagThen, isAccepted, only, joined, lastPart, placeIn, headerOf, held, heldBy}
-use Rattle.session.specs.Promises.{StillOpen, Started, begun, sessionAfter, CompletesOneSealing, MessageOf, AnswersOneOpening, StartsWithinLimits, OneSession, Alike, WithinOneCall, OneSealing, OneOpening, Promised}
+use Rattle.places.specs.Places.{limitOf, countOf, soundAt, soundOf, startAnswer, pieceAnswer, closeAnswer}
+use Rattle.places.proofs.Accepts.{startable, start-limits, sound-counts, accepted as accepts-known, accepted-own, accepted-at, accepts, closable, closable-own, moved-sound, sound-closes, closed-unsound}
+use Rattle.session.specs.Sessions.{Way, sealing, checking, exactOf, verdictOf, Kind, closedOf, stateOf, tagLength, freshOf, startOf, tagAt, ownTag, closeAnswerOf, closeOf, closeTag}
+use Rattle.session.specs.Offered.{Piece, Close, Call, piece, close, tagThen, stepOf, numberTo, isAccepted, only, joined, lastPart, placeIn, headerOf, held, heldBy}
+use Rattle.session.specs.Promises.{StillOpen, Started, begun, sessionAfter, most, ExactOutput, GoesOn, OwnClose, TakesPieces, ClosesUnderItsOwn, CompletesOneSealing, MessageOf, AnswersOneOpening, StartsWithinLimits, OneSession, Alike, WithinOneCall, OneSealing, OneOpening, Promised}
 use Rattle.session.proofs.Joining.{header-long, moved-place}
 use Rattle.session.proofs.Pieces.{afterAll, accepted, wroteAll}
-use Rattle.session.proofs.Refused.{Lawful, refusal-changes-nothing, close-ends, closed-refuses}
+use Rattle.session.proofs.Refused.{Lawful, answer-is, closeTo, verdict-number, no-verdict, refusal-changes-nothing, close-ends, closed-refuses}
 use Rattle.session.proofs.Calls.{piecesOf, AsPieces, as-pieces, without-refused}
-use Rattle.session.proofs.Held.{place-held, state-held, accepted-held, all-kept, fresh-held, session-held}
+use Rattle.session.proofs.Held.{place-held, state-held, answer-held, accepted-held, all-kept, fresh-held, session-held}
 use Rattle.session.proofs.Wrote.{cipher, all-wrote}
 use Rattle.session.proofs.Whole.{beforeAsOne, tagAsOne, broughtBody, tag-whole, text-whole, message-whole}
 
@@ -200,6 +201,79 @@ module _ (K : Kind) (L : Lawful K) (key nonce : List ℕ) (T : Terms) where
       begins-within : StartLimits (K .width) (T .rounds) (length key) (length nonce)
       begins-within = start-limits-of .0 begins
 
+      -- ---- a piece is accepted exactly when it goes on where the accepted ones ended
+
+      module _ (q : Piece) where
+        abbrev k : Part
+        k = q .label .part
+
+        abbrev exact : Bool
+        exact = exactOf (K .way) k (length (q .bytes)) (length (q .out))
+
+        answered : K .answer (stepOf K (afterAll K s₀ qs) (piece q)) ≡ pieceAnswer (place qs) (q .label) (length (q .bytes)) exact
+        answered = ap (λ (s : K .Session). K .answer (stepOf K s (piece q))) (session-is qs) ∙ answer-is K L at-end q ∙ answer-held K L key nonce T part n b t q
+
+        counted : (j : Part) → countOf (place qs) j ≡ length (joined j (accepted₀ qs))
+        counted Note = refl
+        counted Body = refl
+        counted Trailer = refl
+
+        most-is : (j : Part) → limitOf j ≡ most j
+        most-is Note = refl
+        most-is Body = refl
+        most-is Trailer = refl
+
+        exact-from : (way : Way) (j : Part) (m out : ℕ) → exactOf way j m out ≡ true → ExactOutput way j m out
+        exact-from sealing Note m out e = eqb-true out 0 e
+        exact-from sealing Body m out e = eqb-true out m e
+        exact-from sealing Trailer m out e = eqb-true out 0 e
+        exact-from checking j m out e = tt
+
+        exact-to : (way : Way) (j : Part) (m out : ℕ) → ExactOutput way j m out → exactOf way j m out ≡ true
+        exact-to sealing Note m out e = eq-eqb out 0 e
+        exact-to sealing Body m out e = eq-eqb out m e
+        exact-to sealing Trailer m out e = eq-eqb out 0 e
+        exact-to checking j m out e = refl
+
+        goes-on : doneOf (pieceAnswer (place qs) (q .label) (length (q .bytes)) exact) ≡ true → GoesOn (K .way) T (accepted₀ qs) q
+        goes-on h =
+            let a = accepts-known (place qs) (q .label) (length (q .bytes)) exact h in
+            record {
+              own-edition = accepted-own (place qs) (q .label) (length (q .bytes)) exact h;
+              onward = leb-true _ _ (a .onward);
+              at-count = accepted-at (place qs) (q .label) (length (q .bytes)) exact h ∙ counted k;
+              room = rw (sym (counted k), sym (most-is k)) (a .room);
+              exact-output = exact-from (K .way) k (length (q .bytes)) (length (q .out)) (a .fits);
+            }
+
+        takes-it : GoesOn (K .way) T (accepted₀ qs) q → pieceAnswer (place qs) (q .label) (length (q .bytes)) exact ≡ Done
+        takes-it g =
+            accepts (place qs) (q .label) (length (q .bytes)) exact (stays-sound qs) (g .own-edition) (le-leb _ _ (g .onward)) (g .at-count ∙ sym (counted k))
+            (rw (counted k, most-is k) (g .room)) (exact-to (K .way) k (length (q .bytes)) (length (q .out)) (g .exact-output))
+
+        takes-piece : (numberOf (K .answer (stepOf K (afterAll K s₀ qs) (piece q))) ≡ 0) ↔ GoesOn (K .way) T (accepted₀ qs) q
+        takes-piece = (
+          λ e. goes-on (zero-done (pieceAnswer (place qs) (q .label) (length (q .bytes)) exact) (sym (ap numberOf answered) ∙ e)),
+          λ g. ap numberOf (answered ∙ takes-it g),
+        )
+
+      -- ---- a close that is not refused is one under its own edition, with a tag of the right length
+
+      close-own : (c : Close) → doneOf (closeTo K L (afterAll K s₀ qs) c) ≡ true → (c .edition ≡ T .edition) × (length (c .tag) ≡ tagLength K)
+      unfolding closeAnswerOf
+      close-own c h =
+          let is : K .place (afterAll K s₀ qs) ≡ place qs = ap (λ (s : K .Session). K .place s) (session-is qs) ∙ place-held K L key nonce T part n b t in
+          let done : doneOf (closeAnswer (place qs) (c .edition) (tagLength K) (length (c .tag))) ≡ true =
+          sym (ap (λ (p : Place). doneOf (closeAnswer p (c .edition) (tagLength K) (length (c .tag)))) is) ∙ h in
+          (closable-own (place qs) (c .edition) (tagLength K) (length (c .tag)) done .1, closable (place qs) (c .edition) (tagLength K) (length (c .tag)) done .1)
+
+      own-closes : (c : Close) → c .edition ≡ T .edition → length (c .tag) ≡ tagLength K
+          → (numberOf (K .answer (stepOf K (afterAll K s₀ qs) (close c))) ≡ 0) ⊎ (numberOf (K .answer (stepOf K (afterAll K s₀ qs) (close c))) ≡ 10)
+      own-closes c own-edition long =
+          let is : K .answer (stepOf K (afterAll K s₀ qs) (close c)) ≡ verdictOf (K .way) (c .tag) (ownTag K at-end) =
+          ap (λ (E : Edition). K .answer (closeOf K (afterAll K s₀ qs) E (c .tag))) own-edition ∙ ap (λ (x : K .Step). K .answer x) (close-is (c .tag) long) ∙ L .answered _ _ in
+          rw is (verdict-number K L (K .way) (c .tag) (ownTag K at-end))
+
       -- ---- one sealing
 
       module _ (seals : K .way ≡ sealing) where
@@ -341,6 +415,35 @@ module _ (K : Kind) (L : Lawful K) where
       let same-as = as-its-pieces key nonce T cs still in
       rw (same-as .pieces) (parts-within K L key nonce T h (piecesOf cs))
 
+  takes : TakesPieces K
+  takes key nonce T h cs still q =
+      let same-as = as-its-pieces key nonce T cs still in
+      rw (same-as .pieces, same-as .session) (takes-piece K L key nonce T h (piecesOf cs) q)
+
+  -- a session whose close is not refused is open
+  open-still : (s : K .Session) (c : Close) → doneOf (closeTo K L s c) ≡ true → StillOpen K s
+  unfolding closeAnswerOf
+  open-still s c h z =
+      let sound = closable-own (K .place s) (c .edition) (tagLength K) (length (c .tag)) h .0 in
+      false≢true (sym (closed-unsound (K .place s) z) ∙ sound)
+
+  not-refused : (s : K .Session) (c : Close) → (numberTo K s (close c) ≡ 0) ⊎ (numberTo K s (close c) ≡ 10) → doneOf (closeTo K L s c) ≡ true
+  not-refused s c e = ⊎-elim (λ y. y) (λ y. absurd (no-verdict K L s c y e)) (either (doneOf (closeTo K L s c)))
+
+  closes-own : ClosesUnderItsOwn K
+  closes-own key nonce T h cs c = (from, to)
+    where
+      from : (numberTo K (sessionAfter K key nonce T cs) (close c) ≡ 0) ⊎ (numberTo K (sessionAfter K key nonce T cs) (close c) ≡ 10) → OwnClose K key nonce T cs c
+      from e =
+          let done : doneOf (closeTo K L (sessionAfter K key nonce T cs) c) ≡ true = not-refused (sessionAfter K key nonce T cs) c e in
+          let still : StillOpen K (sessionAfter K key nonce T cs) = open-still (sessionAfter K key nonce T cs) c done in
+          let same-as = as-its-pieces key nonce T cs still in
+          let own = close-own K L key nonce T h (piecesOf cs) c (sym (ap (λ (s : K .Session). doneOf (closeTo K L s c)) (same-as .session)) ∙ done) in
+          (still, own .0, own .1 ∙ tag-length K L)
+
+      to : OwnClose K key nonce T cs c → (numberTo K (sessionAfter K key nonce T cs) (close c) ≡ 0) ⊎ (numberTo K (sessionAfter K key nonce T cs) (close c) ≡ 10)
+      to own = rw (as-its-pieces key nonce T cs (own .0) .session) (own-closes K L key nonce T h (piecesOf cs) c (own .1) (own .2 ∙ sym (tag-length K L)))
+
   pub promised : Promised K
   promised = record {
     starts = starts;
@@ -350,6 +453,8 @@ module _ (K : Kind) (L : Lawful K) where
     one-session = one-session;
     alike = alike;
     within = within;
+    takes = takes;
+    closes = closes-own;
     without-refused = without-refused K L;
   }
 

@@ -36,7 +36,7 @@ module _ (K : Kind) (L : Lawful K) where
   abbrev pub answerTo : K .Session → Piece → Answer
   answerTo s q = pieceAnswerOf K s (q .label) (q .bytes) (q .out)
 
-  answer-is : (s : K .Session) (q : Piece) → K .answer (stepOf K s (piece q)) ≡ answerTo s q
+  pub answer-is : (s : K .Session) (q : Piece) → K .answer (stepOf K s (piece q)) ≡ answerTo s q
   unfolding pieceOf
   answer-is s q = L .answered _ _
 
@@ -100,7 +100,7 @@ module _ (K : Kind) (L : Lawful K) where
   unfolding closeOf
   ended-close s c h = ap (λ (x : K .Step). K .next x) (cond-true _ _ _ h) ∙ L .stepped _ _
 
-  ended-answer : (s : K .Session) (c : Close) → doneOf (closeTo s c) ≡ true → K .answer (stepOf K s (close c)) ≡ verdictOf (K .way) (c .tag) (ownTag K s)
+  pub ended-answer : (s : K .Session) (c : Close) → doneOf (closeTo s c) ≡ true → K .answer (stepOf K s (close c)) ≡ verdictOf (K .way) (c .tag) (ownTag K s)
   unfolding closeOf
   ended-answer s c h = ap (λ (x : K .Step). K .answer x) (cond-true _ _ _ h) ∙ L .answered _ _
 
@@ -109,7 +109,7 @@ module _ (K : Kind) (L : Lawful K) where
   by-tag true = inl refl
   by-tag false = inr refl
 
-  verdict-number : (way : Way) (given own : List ℕ) → (numberOf (verdictOf way given own) ≡ 0) ⊎ (numberOf (verdictOf way given own) ≡ 10)
+  pub verdict-number : (way : Way) (given own : List ℕ) → (numberOf (verdictOf way given own) ≡ 0) ⊎ (numberOf (verdictOf way given own) ≡ 10)
   verdict-number sealing given own = inl refl
   verdict-number checking given own = by-tag (same given own)
 
@@ -127,7 +127,7 @@ module _ (K : Kind) (L : Lawful K) where
       (λ (e : doneOf (closeTo s c) ≡ false). (refused-close s c e, refused-tag s c e))
       (either (doneOf (closeTo s c)))
 
-  no-verdict : (s : K .Session) (c : Close) → doneOf (closeTo s c) ≡ false → (numberTo K s (close c) ≡ 0) ⊎ (numberTo K s (close c) ≡ 10) → ⊥
+  pub no-verdict : (s : K .Session) (c : Close) → doneOf (closeTo s c) ≡ false → (numberTo K s (close c) ≡ 0) ⊎ (numberTo K s (close c) ≡ 10) → ⊥
   unfolding closeAnswerOf
   no-verdict s c e (inl z) = false≢true (sym e ∙ zero-done (closeTo s c) (sym (ap numberOf (refused-answer s c e)) ∙ z))
   no-verdict s c e (inr z) = close-no-tag (K .place s) (c .edition) (tagLength K) (length (c .tag)) (sym (ap numberOf (refused-answer s c e)) ∙ z)

@@ -1,7 +1,7 @@
 -- Demands 1 and 3 over a kind of session, in numbers and bytes. Demand 3 is stated of any list of calls after a start that is answered 0, pieces and closes in any
 -- order, where the session is still open behind them.
 -- Assumes nothing.
-use Prim.Native.Nat.{ℕ, _+_}
+use Prim.Native.Nat.{ℕ, _+_, _≤_}
 use mathlib.Core.Path.{_≡_}
 use mathlib.Core.Logic.{_⊎_, _↔_, _≢_}
 use mathlib.Core.List.{List, _++_, map}
@@ -15,8 +15,9 @@ use Rattle.places.specs.declared.terms.Terms.{Terms}
 use Rattle.places.specs.declared.Part.{Part}
 use Rattle.places.specs.declared.Part.the-variants.{Note, Body, Trailer}
 use Rattle.places.specs.declared.Standing.the-variants.{Closed, Open}
-use Rattle.session.specs.Sessions.{Kind, closedOf, startOf}
-use Rattle.session.specs.Offered.{Piece, Close, Call, piece, close, numberTo, afterCall, lentAfter, afterCalls, acceptedIn, wroteIn, joined, headerOf, heldBy}
+use Rattle.places.specs.Places.{rankOf}
+use Rattle.session.specs.Sessions.{Way, sealing, checking, Kind, closedOf, startOf}
+use Rattle.session.specs.Offered.{Piece, Close, Call, piece, close, numberTo, afterCall, lentAfter, afterCalls, acceptedIn, wroteIn, joined, lastPart, headerOf, heldBy}
 
 -- the buffer that is lent to a call
 abbrev pub lent : Call → List ℕ
@@ -78,6 +79,29 @@ module _ (K : Kind) (key nonce : List ℕ) (T : Terms) (cs : List Call) where
   abbrev pub joinedHeader : List ℕ
   joinedHeader = headerOf T (joinedPart Note)
 
+-- the most bytes of a part in a session
+abbrev pub most : Part → ℕ
+most Note = 65528
+most Body = 16777216
+most Trailer = 65536
+
+-- the exact length of an output: ciphertext is as long as the piece, and else nothing is written; a checking session takes no output
+abbrev pub ExactOutput : Way → Part → ℕ → ℕ → Type 0
+ExactOutput sealing Note n out = out ≡ 0
+ExactOutput sealing Body n out = out ≡ n
+ExactOutput sealing Trailer n out = out ≡ 0
+ExactOutput checking part n out = Unit {0}
+
+-- a piece goes on where the pieces that were accepted ended
+pub record GoesOn (way : Way) (T : Terms) (before : List Piece) (q : Piece) : Type 0 where
+  pub own-edition : q .label .edition ≡ T .edition
+  -- its part is not before the present one
+  pub onward : rankOf (lastPart Note before) ≤ rankOf (q .label .part)
+  -- its offset is the number of bytes of that part accepted so far
+  pub at-count : q .label .offset ≡ length (joined (q .label .part) before)
+  pub room : length (joined (q .label .part) before) + length (q .bytes) ≤ most (q .label .part)
+  pub exact-output : ExactOutput way (q .label .part) (length (q .bytes)) (length (q .out))
+
 module _ (K : Kind) (key nonce : List ℕ) (T : Terms) (header body trailer : List ℕ) where
   -- a close that is answered so, where the ciphertext that was written, with the tag, is `text`, completes one sealing
   pub record CompletesOneSealing (answer : ℕ) (text : List ℕ) : Type 0 where
@@ -121,6 +145,12 @@ module _ (K : Kind) where
       (key nonce : List ℕ) (T : Terms) → Started K key nonce T → (cs : List Call) → StillOpen K (sessionAfter K key nonce T cs)
       → PartLimits (length (joinedHeader K key nonce T cs)) (length (joinedPart K key nonce T cs Body)) (length (joinedPart K key nonce T cs Trailer))
 
+  -- a piece is accepted exactly when it goes on where the accepted ones ended
+  abbrev pub TakesPieces : Type 0
+  TakesPieces =
+      (key nonce : List ℕ) (T : Terms) → Started K key nonce T → (cs : List Call) → StillOpen K (sessionAfter K key nonce T cs) → (q : Piece)
+      → (numberTo K (sessionAfter K key nonce T cs) (piece q) ≡ 0) ↔ GoesOn (K .way) T (acceptedPieces K key nonce T cs) q
+
   -- refused calls between them change nothing: the accepted pieces alone give the same
   abbrev pub WithoutRefused : Type 0
   WithoutRefused =
@@ -130,6 +160,12 @@ module _ (K : Kind) where
   -- a session still open is closed under its own edition with a tag of the right length
   abbrev pub OwnClose : (key nonce : List ℕ) (T : Terms) → List Call → Close → Type 0
   OwnClose key nonce T cs c = StillOpen K (sessionAfter K key nonce T cs) × (c .edition ≡ T .edition) × (length (c .tag) ≡ widthsLength (K .width))
+
+  -- and only such a close is answered 0 or 10
+  abbrev pub ClosesUnderItsOwn : Type 0
+  ClosesUnderItsOwn =
+      (key nonce : List ℕ) (T : Terms) → Started K key nonce T → (cs : List Call) (c : Close)
+      → ((numberTo K (sessionAfter K key nonce T cs) (close c) ≡ 0) ⊎ (numberTo K (sessionAfter K key nonce T cs) (close c) ≡ 10)) ↔ OwnClose key nonce T cs c
 
   -- the close of a sealing session completes one sealing of the joined pieces
   abbrev pub OneSealing : Type 0
@@ -155,4 +191,6 @@ pub record Promised (K : Kind) : Type 0 where
   pub one-session : OneSession K
   pub alike : Alike K
   pub within : WithinOneCall K
+  pub takes : TakesPieces K
+  pub closes : ClosesUnderItsOwn K
   pub without-refused : WithoutRefused K
