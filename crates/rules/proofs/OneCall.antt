@@ -1,7 +1,7 @@
 -- What one call answers and leaves, where the limits are kept: a sealing what the definition gives; an opening as there is a message that seals to its text, or none.
 -- Assumes nothing.
 use mathlib.Core.Path.{_≡_, refl, sym, ap, _∙_}
-use mathlib.Core.Bool.{true, cond}
+use mathlib.Core.Bool.{true}
 use mathlib.Core.Logic.{_↔_}
 use mathlib.Core.List.{List}
 use mathlib.Core.Option.{Option, none, some}

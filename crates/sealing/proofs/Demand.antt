@@ -9,15 +9,15 @@ use Prim.Native.Nat.{ℕ, _<_}
 use native.Mathlib.Omega.{arith}
 use borrow.Author.Tests.{ne-eqb}
 use lib.ListN.{length, replicate}
-use Rattle.norx.specs.Norx.{Width, rowBytes, tagBits, sealed, opened}
-use Rattle.norx.specs.Texts.{Bytes, SealsTo}
+use Rattle.norx.specs.Norx.{Width, rowBytes, tagBits, opened}
+use Rattle.norx.specs.Texts.{Bytes}
 use Rattle.answers.specs.declared.Answer.{Answer}
 use Rattle.answers.specs.Answers.{numberOf, doneOf}
-use Rattle.answers.proofs.Tests.{either, cond-true, cond-false}
+use Rattle.answers.proofs.Tests.{either, cond-false}
 use Rattle.answers.proofs.Chain.{done-zero, zero-done}
 use Rattle.rules.specs.Rules.{tagBytes}
 use Rattle.rules.specs.Calls.{answerOf, outOf}
-use Rattle.rules.specs.OneCall.{sealAnswer, sealOut, checked, tagAnswer, tagOut, openAnswer, openOut}
+use Rattle.rules.specs.OneCall.{sealAnswer, sealOut, checked, openAnswer, openOut}
 use Rattle.rules.proofs.Lengths.{tag-fits}
 use Rattle.rules.proofs.Limits.{seal-limits, open-limits, seal-answers, open-answers}
 use Rattle.rules.proofs.OneCall.{handed-out, refused, seal-done, open-done}

@@ -8,7 +8,6 @@ use Prim.Native.Nat.{ℕ}
 use native.Mathlib.Omega.{arith}
 use Rattle.answers.specs.Answers.{doneOf}
 use Rattle.answers.proofs.Tests.{either}
-use Rattle.places.specs.declared.Standing.{Standing}
 use Rattle.places.specs.declared.Standing.the-variants.{Closed}
 use Rattle.session.specs.Sessions.{Kind, closedOf}
 use Rattle.session.specs.Offered.{Piece, Close, Call, piece, close, numberTo, afterCall, isAccepted, wrote, afterCalls, acceptedIn, wroteIn}

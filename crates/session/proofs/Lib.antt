@@ -8,4 +8,9 @@ pub mod Flat
 pub mod Held
 pub mod Wrote
 pub mod Whole
+pub mod Begun
+pub mod Closing
+pub mod Taking
+pub mod OneSealing
+pub mod OneOpening
 pub mod Demand

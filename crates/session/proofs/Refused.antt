@@ -5,7 +5,6 @@ use mathlib.Core.Bool.{Bool, true, false, false≢true}
 use mathlib.Core.Logic.{_⊎_, inl, inr, ⊎-elim, _≢_}
 use mathlib.Core.List.{List, [], _∷_, _++_}
 use Prim.Native.Nat.{ℕ}
-use native.Mathlib.Omega.{arith}
 use borrow.Author.Tests.{ne-eqb}
 use lib.ListN.{length}
 use Rattle.norx.specs.Norx.{tagBits, same}
@@ -13,14 +12,13 @@ use Rattle.answers.specs.declared.Answer.{Answer}
 use Rattle.answers.specs.declared.Answer.the-variants.{Done, NotSound, TagDiffers}
 use Rattle.answers.specs.Answers.{numberOf, doneOf, needOf}
 use Rattle.answers.proofs.Tests.{either, cond-true, cond-false}
-use Rattle.answers.proofs.Chain.{done-zero, zero-done}
+use Rattle.answers.proofs.Chain.{zero-done}
 use Rattle.places.specs.declared.Standing.the-variants.{Closed}
 use Rattle.places.specs.declared.Place.{Place}
-use Rattle.places.specs.Places.{pieceAnswer, closeAnswer}
 use Rattle.places.proofs.Accepts.{close-no-tag, closed-piece, closed-close}
-use Rattle.session.specs.Sessions.{Way, sealing, checking, verdictOf, exactOf, Kind, closedOf, tagLength, ownTag, pieceAnswerOf, pieceOf, pieceOut, closeAnswerOf, closeOf, closeTag}
+use Rattle.session.specs.Sessions.{Way, sealing, checking, verdictOf, Kind, closedOf, tagLength, ownTag, pieceAnswerOf, pieceOf, pieceOut, closeAnswerOf, closeOf, closeTag}
 use Rattle.session.specs.Offered.{Piece, Close, Call, piece, close, tagThen, stepOf, numberTo, afterCall, lentAfter, isAccepted, wrote}
-use Rattle.session.specs.Promises.{lent, RefusalChangesNothing, CloseEnds, ClosedRefuses}
+use Rattle.session.specs.Promises.{RefusalChangesNothing, CloseEnds, ClosedRefuses}
 use Rattle.session.proofs.Pieces.{afterPiece, afterAll, accepted, wroteAll}
 
 -- a kind is lawful where what it puts together it takes apart again, and its tag is the width's
