@@ -43,9 +43,9 @@ module _ (w : Width) (l : ℕ) (key nonce header text trailer before : List ℕ)
 
   seals : Seals w l key nonce header text trailer before (numberOf (sealAnswer w l key nonce header text trailer before)) (sealOut w l key nonce header text trailer before)
   seals = record {
-    sealed-there = seal-done w l key nonce header text trailer before;
+    as-defined = seal-done w l key nonce header text trailer before;
     only-there = may-seal .0;
-    no-tag-looked-at = sealing-not 10 (omega arith);
+    never-10 = sealing-not 10 (omega arith);
     leaves = record { kept = λ h g. kept-sealing h; zeroed = λ e. absurd (sealing-not 10 (omega arith) e) };
   }
 
@@ -82,12 +82,15 @@ module _ (w : Width) (l : ℕ) (key nonce header text trailer before : List ℕ)
   never-there e (inl z) = let done : doneOf checks ≡ true = zero-done checks (sym (ap numberOf (numbers-refused e .0)) ∙ z) in let no : _≡_ {A = ℕ} 0 1 = cc in omega arith
   never-there e (inr z) = checks-not 10 (omega arith) (sym (ap numberOf (numbers-refused e .0)) ∙ z)
 
-  only-there : (numberOf opening ≡ 0) ⊎ (numberOf opening ≡ 10) → MayOpen w l key nonce header text trailer before
-  only-there h = ⊎-elim may-where (λ e. absurd (never-there e h)) (either (doneOf checks))
-
   by-tag : (x : Option (List ℕ)) → (numberOf (answerOf x) ≡ 0) ⊎ (numberOf (answerOf x) ≡ 10)
   by-tag none = inr refl
   by-tag (some m) = inl refl
+
+  looked-at : ((numberOf opening ≡ 0) ⊎ (numberOf opening ≡ 10)) ↔ MayOpen w l key nonce header text trailer before
+  looked-at = (
+    λ h. ⊎-elim may-where (λ e. absurd (never-there e h)) (either (doneOf checks)),
+    λ may. rw (open-done w l key nonce header text trailer before may .0) (by-tag o),
+  )
 
   pub opening-not : (n : ℕ) → 10 < n → numberOf (openAnswer w l key nonce header text trailer before) ≢ n
   opening-not n more z =
@@ -123,7 +126,7 @@ module _ (w : Width) (l : ℕ) (key nonce header text trailer before : List ℕ)
     refused = λ may.
         let done = open-done w l key nonce header text trailer before may in
         rw (done .0, done .1) (refused w l (tagBits w) (tag-fits w) key nonce header text trailer bytes (length before));
-    only-there = only-there;
+    looked-at = looked-at;
     leaves = leaves-bytes;
   }
 

@@ -29,10 +29,10 @@ module _ (w : Width) (l : ℕ) (key nonce header text trailer before : List ℕ)
 module _ (w : Width) (l : ℕ) (key nonce header text trailer before : List ℕ) (answer : ℕ) (after : List ℕ) where
   pub record Seals : Type 0 where
     -- where the limits are kept the answer is 0, and the output is what NORX 3.0 defines
-    pub sealed-there : MaySeal w l key nonce header text trailer before → (answer ≡ 0) × (after ≡ sealed w l (tagBits w) key nonce header text trailer)
+    pub as-defined : MaySeal w l key nonce header text trailer before → (answer ≡ 0) × (after ≡ sealed w l (tagBits w) key nonce header text trailer)
     -- 0 is answered nowhere else, and 10 nowhere
     pub only-there : answer ≡ 0 → MaySeal w l key nonce header text trailer before
-    pub no-tag-looked-at : answer ≢ 10
+    pub never-10 : answer ≢ 10
     pub leaves : LeavesBytes before answer after
 
   pub record Opens : Type 0 where
@@ -42,8 +42,8 @@ module _ (w : Width) (l : ℕ) (key nonce header text trailer before : List ℕ)
     -- and the text is refused, with 10 and zeros, exactly when no message does
     pub refused : MayOpen w l key nonce header text trailer before
         → ((answer ≡ 10) × (after ≡ replicate (length before) 0)) ↔ ((M : List ℕ) → SealsTo w l (tagBits w) key nonce header trailer text M → ⊥)
-    -- 0 and 10 are answered nowhere else
-    pub only-there : (answer ≡ 0) ⊎ (answer ≡ 10) → MayOpen w l key nonce header text trailer before
+    -- one of the two is answered exactly where the limits are kept
+    pub looked-at : ((answer ≡ 0) ⊎ (answer ≡ 10)) ↔ MayOpen w l key nonce header text trailer before
     pub leaves : LeavesBytes before answer after
 
 -- ---- The same where the width is given as a number
