@@ -16,9 +16,10 @@ done-zero a e = eqb-true (numberOf a) 0 e
 pub zero-done : (a : Answer) → numberOf a ≡ 0 → doneOf a ≡ true
 zero-done a e = eq-eqb (numberOf a) 0 e
 
--- one link of a chain, from what its test and the rest of the chain are
-pub link : (refusal : Answer) {ok ok′ : Bool} {rest rest′ given : Answer} → given ≡ needOf ok refusal rest → ok ≡ ok′ → rest ≡ rest′ → given ≡ needOf ok′ refusal rest′
-link refusal e f g = e ∙ ap₂ (λ (a : Bool) (b : Answer). needOf a refusal b) f g
+-- one link of a chain, from what its test, its refusal and the rest of the chain are
+pub link : (refusal : Answer) {ok ok′ : Bool} {refused rest rest′ given : Answer} → given ≡ needOf ok refused rest → refused ≡ refusal → ok ≡ ok′ → rest ≡ rest′
+    → given ≡ needOf ok′ refusal rest′
+link refusal {ok = ok} {rest = rest} e r f g = e ∙ ap (λ (a : Answer). needOf ok a rest) r ∙ ap₂ (λ (a : Bool) (b : Answer). needOf a refusal b) f g
 
 -- how a test of the answer that a chain gave came out, of the chain itself
 pub tested : {given chain : Answer} {test way : Bool} → given ≡ chain → test ≡ doneOf given → test ≡ way → doneOf chain ≡ way

@@ -18,9 +18,9 @@ returns c =
     let within = n1 .before in
     let sound = within .before in
     let x = sound .before .args in
-    link NotSound (c .need3 .ensures) (sound .sound .ensures)
+    link NotSound (c .need3 .ensures) refl (sound .sound .ensures)
     (n3 .of-edition .ensures ∙ ap (ofEdition (x .edition) (x .p .terms .edition))
-    (link OverLimit (n2 .need2 .ensures) (within .counts-within .ensures) (link TagLength (n1 .need .ensures) refl refl)))
+    (link OverLimit (n2 .need2 .ensures) refl (within .counts-within .ensures) (link TagLength (n1 .need .ensures) refl refl refl)))
 
 pub close-answer-spec : {M : Type 1} → statement M
 close-answer-spec = tie.close (tie.spec (λ c κs. search needs) (λ c κs. search needs) (λ c κs. search needs) (λ c κs. search needs) (λ c κs. search needs) (λ c κs. search needs) returns)

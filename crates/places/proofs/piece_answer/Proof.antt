@@ -26,12 +26,12 @@ returns c =
     let sound = present .before in
     let had = sound .before in
     let x = had .before .args in
-    link NotSound (c .need5 .ensures) (sound .sound .ensures)
+    link NotSound (c .need5 .ensures) refl (sound .sound .ensures)
     (n5 .of-edition .ensures ∙ ap (ofEdition (x .label .edition) (x .p .terms .edition))
-    (link EarlierPart (n4 .need4 .ensures) (ap₂ (λ (a b : ℕ). leb a b) (present .present .ensures) (rank .rank .ensures))
-    (link OtherOffset (n3 .need3 .ensures) (ap (λ (a : ℕ). eqb (x .label .offset) a) (had .count .ensures))
-    (link OverLimit (n2 .need2 .ensures) (room .fits2 .ensures ∙ ap₂ (λ (a b : ℕ). leb (a + x .n) b) (had .count .ensures) (most .limit .ensures))
-    (link OutputLength (n1 .need .ensures) refl refl)))))
+    (link EarlierPart (n4 .need4 .ensures) refl (ap₂ (λ (a b : ℕ). leb a b) (present .present .ensures) (rank .rank .ensures))
+    (link OtherOffset (n3 .need3 .ensures) refl (ap (λ (a : ℕ). eqb (x .label .offset) a) (had .count .ensures))
+    (link OverLimit (n2 .need2 .ensures) refl (room .fits2 .ensures ∙ ap₂ (λ (a b : ℕ). leb (a + x .n) b) (had .count .ensures) (most .limit .ensures))
+    (link OutputLength (n1 .need .ensures) refl refl refl)))))
 
 pub piece-answer-spec : {M : Type 1} → statement M
 piece-answer-spec = tie.close (tie.spec (λ c κs. search needs) (λ c κs. search needs) (λ c κs. search needs) (λ c κs. search needs) (λ c κs. search needs) (λ c κs. search needs) (λ c κs. search needs) (λ c κs. search needs) (λ c κs. search needs) (λ c κs. search needs) (λ c κs. search needs) (λ c κs. search needs) returns)

@@ -12,7 +12,7 @@ returns : tie.Need-returns
 unfolding startAnswer
 returns c =
     let lengths = c .before .before in
-    link RoundsNumber (c .need2 .ensures) (lengths .before .rounds-ok .ensures) (link KeyLength (c .before .need .ensures) (lengths .lengths-ok .ensures) refl)
+    link RoundsNumber (c .need2 .ensures) refl (lengths .before .rounds-ok .ensures) (link KeyLength (c .before .need .ensures) refl (lengths .lengths-ok .ensures) refl)
 
 pub start-answer-spec : {M : Type 1} → statement M
 start-answer-spec = tie.close (tie.spec (λ c κs. search needs) (λ c κs. search needs) (λ c κs. search needs) (λ c κs. search needs) returns)

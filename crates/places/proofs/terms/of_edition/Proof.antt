@@ -10,7 +10,7 @@ use Rattle.places.proofs.terms.of_edition.Tie as tie
 
 returns : tie.Need-returns
 unfolding ofEdition
-returns c = link OtherRevision (c .need .ensures) refl refl
+returns c = link OtherRevision (c .need .ensures) refl refl refl
 
 pub of-edition-spec : {M : Type 1} → statement M
 of-edition-spec = tie.close (tie.spec (λ c κs. search needs) returns)

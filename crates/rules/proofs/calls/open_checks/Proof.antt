@@ -23,11 +23,11 @@ returns c =
     let rounds = lengths .before in
     let body = rounds .before in
     let x = body .before .args in
-    link RoundsNumber (c .need5 .ensures) (rounds .rounds-ok .ensures)
-    (link KeyLength (n4 .need4 .ensures) (lengths .lengths-ok .ensures)
-    (link TagLength (n3 .need3 .ensures) refl
-    (link OverLimit (n2 .need2 .ensures) (limits .within .ensures ∙ ap (λ (n : ℕ). within (x .header) n (x .trailer)) (body .minus-or-zero .ensures))
-    (link OutputLength (n1 .need .ensures) (ap (λ (n : ℕ). eqb (x .out) n) (body .minus-or-zero .ensures)) refl))))
+    link RoundsNumber (c .need5 .ensures) refl (rounds .rounds-ok .ensures)
+    (link KeyLength (n4 .need4 .ensures) refl (lengths .lengths-ok .ensures)
+    (link TagLength (n3 .need3 .ensures) refl refl
+    (link OverLimit (n2 .need2 .ensures) refl (limits .within .ensures ∙ ap (λ (n : ℕ). within (x .header) n (x .trailer)) (body .minus-or-zero .ensures))
+    (link OutputLength (n1 .need .ensures) refl (ap (λ (n : ℕ). eqb (x .out) n) (body .minus-or-zero .ensures)) refl))))
 
 pub open-checks-spec : {M : Type 1} → statement M
 open-checks-spec =

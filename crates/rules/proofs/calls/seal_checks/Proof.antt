@@ -17,9 +17,9 @@ returns c =
     let exact = n1 .before in
     let limits = exact .before in
     let lengths = limits .before in
-    link RoundsNumber (c .need4 .ensures) (lengths .before .rounds-ok .ensures)
-    (link KeyLength (n3 .need3 .ensures) (lengths .lengths-ok .ensures)
-    (link OverLimit (n2 .need2 .ensures) (limits .within .ensures) (link OutputLength (n1 .need .ensures) (exact .is-sum .ensures) refl)))
+    link RoundsNumber (c .need4 .ensures) refl (lengths .before .rounds-ok .ensures)
+    (link KeyLength (n3 .need3 .ensures) refl (lengths .lengths-ok .ensures)
+    (link OverLimit (n2 .need2 .ensures) refl (limits .within .ensures) (link OutputLength (n1 .need .ensures) refl (exact .is-sum .ensures) refl)))
 
 pub seal-checks-spec : {M : Type 1} → statement M
 seal-checks-spec =
