@@ -225,19 +225,17 @@ pub fn piece_answer(p: Place, label: Label, n: usize, exact: bool) -> Answer
 pub fn close_answer(p: Place, edition: Edition, wanted: usize, tag: usize) -> Answer
     ensures { λ r. ⌜ r ≡ closeAnswer p edition wanted tag ⌝ }
 {
-    need(
-        sound(p),
-        Answer::NotSound,
-        of_edition(
-            edition,
-            p.terms.edition,
-            need(
-                counts_within(p),
-                Answer::OverLimit,
-                need(tag == wanted, Answer::TagLength, Answer::Done),
-            ),
+    let sound = sound(p);
+    let rest = of_edition(
+        edition,
+        p.terms.edition,
+        need(
+            counts_within(p),
+            Answer::OverLimit,
+            need(tag == wanted, Answer::TagLength, Answer::Done),
         ),
-    )
+    );
+    need(sound, Answer::NotSound, rest)
 }
 
 // The place once a piece of n bytes is accepted; as it was where they would pass the limit.

@@ -1,10 +1,11 @@
 -- `places::piece_answer` is the chain of its definition, link by link.
 -- Assumes nothing.
-use mathlib.Core.Path.{refl, ap, ap₂, _∙_}
+use mathlib.Core.Path.{_≡_, refl, ap, ap₂, _∙_}
 use Prim.Native.Nat.{ℕ, _+_}
 use borrow.Author.Needs.{needs}
 use lib.Dec.{leb, eqb}
 use Rattle.answers.specs.declared.Answer.the-variants.{OverLimit, OutputLength, EarlierPart, OtherOffset, NotSound}
+use Rattle.answers.specs.Answers.{needOf}
 use Rattle.answers.proofs.Chain.{link}
 use Rattle.places.specs.Terms.{ofEdition}
 use Rattle.places.specs.Places.{pieceAnswer}
@@ -29,7 +30,8 @@ returns c =
     link NotSound (c .need5 .ensures) refl (sound .sound .ensures)
     (n5 .of-edition .ensures ∙ ap (ofEdition (x .label .edition) (x .p .terms .edition))
     (link EarlierPart (n4 .need4 .ensures) refl (ap₂ (λ (a b : ℕ). leb a b) (present .present .ensures) (rank .rank .ensures))
-    (link OtherOffset (n3 .need3 .ensures) refl (ap (λ (a : ℕ). eqb (x .label .offset) a) (had .count .ensures))
+    (let offset : n3 .need3 .result ≡ needOf (eqb (x .label .offset) (had .count .result)) OtherOffset (n2 .need2 .result) = n3 .need3 .ensures in
+    link OtherOffset offset refl (ap (λ (a : ℕ). eqb (x .label .offset) a) (had .count .ensures))
     (link OverLimit (n2 .need2 .ensures) refl (room .fits2 .ensures ∙ ap₂ (λ (a b : ℕ). leb (a + x .n) b) (had .count .ensures) (most .limit .ensures))
     (link OutputLength (n1 .need .ensures) refl refl refl)))))
 
