@@ -2,7 +2,7 @@
 -- Assumes nothing.
 use borrow.Author.Needs.{needs}
 use mathlib.Core.Path.{_≡_, refl, ap, _∙_}
-use Rattle.norx.specs.Norx.{word32, bits, tagBits, P, State, row, rowAt, xorRow, constants, entered, keyed, start}
+use Rattle.norx.specs.Norx.{word32, bits, tagBits, P, State, row, rows, rowAt, xorRow, constants, entered, keyed, start}
 use Rattle.norx.proofs.Slices.{list4}
 use Rattle.norx.proofs.Turns.{unmarked}
 use Rattle.blocks32.proofs.ends.start.Statement.{statement}
@@ -12,10 +12,11 @@ returns : tie.Need-returns
 unfolding start entered
 returns c =
     let x = c .before .before .before .before .before .args in
-    let u = c .before .before .before .before .upper-constants .ensures in
+    let upper = c .before .before .before .before .upper-constants in
+    let u = upper .ensures in
     let r3 : c .before .xor-row .result ≡ xorRow (rowAt (constants word32) 3) (row (bits word32) (x .rounds) 1 (tagBits word32)) =
     c .before .xor-row .ensures ∙ ap (λ (s : State). xorRow (rowAt s 1) (row (bits word32) (x .rounds) 1 (tagBits word32))) u in
-    let e : c .enter-keyed .result ≡ keyed (x .k) (P word32 (x .rounds) _) = c .enter-keyed .ensures in
+    let e : c .enter-keyed .result ≡ keyed (x .k) (entered word32 (x .rounds) 0 (rows (x .n) (x .k) (rowAt (upper .result) 0) (c .before .xor-row .result))) = c .enter-keyed .ensures in
     e
     ∙ ap (λ (s : State). keyed (x .k) (P word32 (x .rounds) s)) (unmarked _ ∙ list4 refl refl (ap (λ (s : State). rowAt s 0) u) r3)
 
