@@ -37,15 +37,15 @@ fn absorb_last(s: State, rounds: u32, m: u8, left: &[u8]) -> State
 }
 
 // A part taken in with its mark: nothing of an empty one; else its full blocks, and a padded one.
-pub fn absorb(s: State, rounds: u32, m: u8, d: &[u8]) -> State
-    ensures { λ q. ⌜ q ≡ afterPart word32 rounds m s (was d) ⌝ }
+pub fn absorb(from: State, rounds: u32, m: u8, d: &[u8]) -> State
+    ensures { λ q. ⌜ q ≡ afterPart word32 rounds m from (was d) ⌝ }
 {
     let n = d.len();
     if n == 0 {
-        return s;
+        return from;
     }
     let at = n / RATE * RATE;
-    absorb_last(absorb_full(s, rounds, m, d), rounds, m, &d[at..])
+    absorb_last(absorb_full(from, rounds, m, d), rounds, m, &d[at..])
 }
 
 // The full blocks of a body, and their ciphertext.
@@ -116,7 +116,8 @@ fn decrypt_last(s: State, rounds: u32, left: &[u8], out: &mut [u8]) -> State
     let r = rate_bytes(xor_block(e, &b));
     let k = left.len();
     bytes::copy(&r[..k], &mut *out);
-    let p = padded(out);
+    let message = &*out;
+    let p = padded(message);
     xor_block(e, &p)
 }
 

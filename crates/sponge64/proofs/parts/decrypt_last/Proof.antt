@@ -1,7 +1,7 @@
 -- `sponge64::parts::decrypt_last`: the bytes left xored with the rate are their message, which the state takes in with its padding.
 -- Assumes nothing.
 use borrow.Author.Needs.{needs}
-use mathlib.Core.Path.{sym, ap, ap₂, _∙_}
+use mathlib.Core.Path.{_≡_, sym, ap, ap₂, _∙_}
 use mathlib.Core.List.{List}
 use Prim.Native.Nat.{ℕ}
 use native.Mathlib.Nat.{le-of-lt}
@@ -26,6 +26,10 @@ copy-requires c κs =
     let e = ap length (b .rate-bytes .ensures) ∙ length-rateOf word64 _ in
     omega (arith, length-take-le (length (b .before .before .before .before .before .before .before .args .left .now)) (b .rate-bytes .result) (omega arith))
 
+-- the padded block is made of the text that was written
+padded-of : (b : List ℕ) {text m : List ℕ} → text ≡ m → b ≡ padded (rate word64) text → b ≡ padded (rate word64) m
+padded-of b e f = f ∙ ap (padded (rate word64)) e
+
 returns : tie.Need-returns
 returns c =
     let copied-at = c .before .before .before .before .before .before in
@@ -41,7 +45,7 @@ returns c =
     ∙ recovered-of word64 (entered-at .enter .result) x (le-of-lt (start .pre .0)) (λ i. known .shared-slice-known .given i .fits)
     (rate-at .before .before .before .filled .ensures) (rate-at .before .xor-block .ensures) (rate-at .rate-bytes .ensures)
     ∙ ap (λ (s : State). xors (take (length x) (rateOf word64 s)) x) (entered-at .enter .ensures) in (
-      c .xor-block2 .ensures ∙ ap₂ (λ (s : State) (b : List ℕ). xorBlock word64 s b) (entered-at .enter .ensures) (c .before .before .padded .ensures ∙ ap (padded (rate word64)) text),
+      c .xor-block2 .ensures ∙ ap₂ (λ (s : State) (b : List ℕ). xorBlock word64 s b) (entered-at .enter .ensures) (padded-of (c .before .before .padded .result) text (c .before .before .padded .ensures)),
       text,
     )
 

@@ -1,6 +1,7 @@
 -- `sponge64::pieces::end`: nothing after no bytes, else the padding at the place that they reached.
 -- Assumes nothing.
 use borrow.Author.Needs.{needs}
+use mathlib.Core.Path.{_≡_}
 use Prim.Native.Nat.{_%_}
 use native.Mathlib.Omega.{arith}
 use Rattle.norx.specs.Norx.{word64, rate}
@@ -11,7 +12,8 @@ use Rattle.sponge64.proofs.pieces.end.Tie as tie
 returns : tie.Need-returns
 returns c =
     let x = c .before .args in
-    end-none word64 (x .rounds) (x .m) (x .s) (x .n) (c .if1 .taken)
+    let none : x .n ≡ 0 = omega arith in
+    end-none word64 (x .rounds) (x .m) (x .s) (x .n) none
 
 returns-2 : tie.Need-returns-2
 returns-2 c =

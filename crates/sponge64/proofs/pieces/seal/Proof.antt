@@ -6,6 +6,12 @@ use lib.ListN.{length}
 use Rattle.sponge64.proofs.pieces.seal.Statement.{statement}
 use Rattle.sponge64.proofs.pieces.seal.Tie as tie
 
+returns-2 : tie.Need-returns-2
+returns-2 c =
+    let x = c .before .before .before .args in
+    let e = ne-eqb (length (x .out .now)) (length (x .d .now)) (c .if1 .left) in
+    (rw e, rw e)
+
 returns : tie.Need-returns
 returns c =
     let call = c .before .before in
@@ -13,12 +19,6 @@ returns c =
     let x = exact .before .before .before .args in
     let e = eq-eqb (length (x .out .now)) (length (x .d .now)) (exact .if1 .taken) in
     (rw e (call .seal-exact .ensures .0), rw e (call .seal-exact .ensures .1))
-
-returns-2 : tie.Need-returns-2
-returns-2 c =
-    let x = c .before .before .before .args in
-    let e = ne-eqb (length (x .out .now)) (length (x .d .now)) (c .if1 .left) in
-    (rw e, rw e)
 
 pub seal-spec : {M : Type 1} → statement M
 seal-spec = tie.close (tie.spec (λ c κs. search needs) (λ c. search needs) returns returns-2)
