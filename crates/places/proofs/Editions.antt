@@ -1,8 +1,8 @@
 -- The test of the edition, as a link of a chain of refusals; and the front of an edition: how long it is, and that it is bytes.
 -- Assumes nothing.
-use mathlib.Core.Path.{_≡_, refl}
-use mathlib.Core.Bool.{true}
-use mathlib.Core.Logic.{_≢_}
+use mathlib.Core.Path.{_≡_, refl, sym, ap, _∙_}
+use mathlib.Core.Bool.{Bool, true, false, false≢true}
+use mathlib.Core.Logic.{⊎-elim, _≢_}
 use native.Mathlib.Omega.{arith}
 use borrow.Author.Tests.{eq-eqb, eqb-true}
 use lib.Dec.{eqb}
@@ -11,32 +11,50 @@ use Rattle.norx.specs.Norx.{bytesOf}
 use Rattle.norx.specs.Front.{front, frontBytes}
 use Rattle.norx.proofs.Bytes.{Bytes, bytes-bytesOf}
 use Rattle.answers.specs.declared.Answer.{Answer}
-use Rattle.answers.specs.declared.Answer.the-variants.{OtherRevision}
+use Rattle.answers.specs.declared.Answer.the-variants.{Done, OtherRevision}
 use Rattle.answers.specs.Answers.{numberOf, doneOf, needOf}
-use Rattle.answers.proofs.Chain.{passed, link-not}
+use Rattle.answers.proofs.Tests.{either, cond-true, cond-false}
+use Rattle.answers.proofs.Chain.{link, passed, link-not}
 use Rattle.places.specs.declared.terms.Edition.{Edition}
-use Rattle.places.specs.Terms.{ofEdition, frontOf}
+use Rattle.places.specs.Terms.{editionAnswer, ofEdition, frontOf}
 
--- where it gives no refusal, the rest of the chain gives none
-pub edition-passed : (given own : Edition) (rest : Answer) → doneOf (ofEdition given own rest) ≡ true → doneOf rest ≡ true
+-- the link put together, from what was answered of the edition, whether that is 0, and the rest of the chain
+pub edition-link : (given own : Edition) {a rest rest′ r : Answer} {ok : Bool} → r ≡ needOf ok a rest → a ≡ editionAnswer given own → ok ≡ doneOf a → rest ≡ rest′
+    → r ≡ ofEdition given own rest′
 unfolding ofEdition
-edition-passed given own rest h = passed _ _ _ refl h .1
+edition-link given own e answer is-own f = link (editionAnswer given own) e answer (is-own ∙ ap doneOf answer) f
 
--- and the two editions are one
-pub edition-same : (given own : Edition) (rest : Answer) → doneOf (ofEdition given own rest) ≡ true → given ≡ own
-unfolding ofEdition
-edition-same given own rest h =
-    let revisions : given .revision ≡ own .revision = eqb-true (given .revision) (own .revision) (passed _ _ _ refl h .0) in
-    λ i. record { revision = revisions i }
+module _ (given own : Edition) (rest : Answer) where
+  -- where the link gives no refusal, neither its own answer nor the rest of the chain is one
+  each-passed : doneOf (ofEdition given own rest) ≡ true → (doneOf (editionAnswer given own) ≡ true) × (doneOf rest ≡ true)
+  unfolding ofEdition needOf
+  each-passed h =
+      ⊎-elim
+      (λ (e : doneOf (editionAnswer given own) ≡ true). (e, sym (ap doneOf (cond-true _ rest (editionAnswer given own) e)) ∙ h))
+      (λ (e : doneOf (editionAnswer given own) ≡ false).
+      absurd (false≢true (sym e ∙ (sym (ap doneOf (cond-false _ rest (editionAnswer given own) e)) ∙ h))))
+      (either (doneOf (editionAnswer given own)))
 
--- it answers 6 or what the rest answers
-pub edition-not : (given own : Edition) (rest : Answer) → numberOf rest ≢ 10 → numberOf (ofEdition given own rest) ≢ 10
-unfolding ofEdition
-edition-not given own rest h = link-not 10 (eqb (given .revision) (own .revision)) OtherRevision rest (λ e. omega arith) h
+  pub edition-passed : doneOf (ofEdition given own rest) ≡ true → doneOf rest ≡ true
+  edition-passed h = each-passed h .1
+
+  -- and the two editions are one
+  pub edition-same : doneOf (ofEdition given own rest) ≡ true → given ≡ own
+  unfolding editionAnswer
+  edition-same h =
+      let revisions : given .revision ≡ own .revision = eqb-true (given .revision) (own .revision) (passed _ _ _ refl (each-passed h .0) .0) in
+      λ i. record { revision = revisions i }
+
+  -- an edition is never answered 10
+  pub edition-not : numberOf rest ≢ 10 → numberOf (ofEdition given own rest) ≢ 10
+  unfolding ofEdition editionAnswer
+  edition-not h =
+      link-not 10 (doneOf (editionAnswer given own)) (editionAnswer given own) rest
+      (link-not 10 (eqb (given .revision) (own .revision)) OtherRevision Done (λ e. omega arith) (λ e. omega arith)) h
 
 -- a session's own edition is not refused
 pub edition-own : (E : Edition) (rest : Answer) → ofEdition E E rest ≡ rest
-unfolding ofEdition needOf
+unfolding ofEdition editionAnswer needOf
 edition-own E rest = let same : eqb (E .revision) (E .revision) ≡ true = eq-eqb (E .revision) (E .revision) refl in rw same
 
 pub front-long : (E : Edition) → length (frontOf E) ≡ frontBytes

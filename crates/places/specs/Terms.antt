@@ -6,8 +6,8 @@ use mathlib.Core.List.{List}
 use lib.Dec.{eqb}
 use Rattle.norx.specs.Front.{front}
 use Rattle.answers.specs.declared.Answer.{Answer}
-use Rattle.answers.specs.declared.Answer.the-variants.{OtherRevision}
-use Rattle.answers.specs.Answers.{needOf}
+use Rattle.answers.specs.declared.Answer.the-variants.{Done, OtherRevision}
+use Rattle.answers.specs.Answers.{doneOf, needOf}
 use Rattle.rules.specs.Rules.{roundsOk}
 use Rattle.places.specs.declared.terms.Edition.{Edition}
 use Rattle.places.specs.declared.terms.Terms.{Terms}
@@ -20,9 +20,13 @@ noTerms = record { rounds = 0; edition = record { revision = 0 } }
 abbrev pub termsOk : Terms → Bool
 termsOk T = roundsOk (T .rounds)
 
--- a link of the chains of refusals: the edition that is given is the session's own
+-- what an edition that is given is answered: 0 where it is the session's own
+unfoldable pub editionAnswer : Edition → Edition → Answer
+editionAnswer given own = needOf (eqb (given .revision) (own .revision)) OtherRevision Done
+
+-- the same as a link of the chains of refusals
 unfoldable pub ofEdition : Edition → Edition → Answer → Answer
-ofEdition given own rest = needOf (eqb (given .revision) (own .revision)) OtherRevision rest
+ofEdition given own rest = needOf (doneOf (editionAnswer given own)) (editionAnswer given own) rest
 
 -- what stands in front of the note in the header of a session
 unfoldable pub frontOf : Edition → List ℕ

@@ -9,6 +9,7 @@ use crate::terms::Terms;
 use crate::terms::of_edition;
 use crate::terms::terms_ok;
 use answers::Answer;
+use answers::done;
 use answers::need;
 use rules::LONGEST_BODY;
 use rules::LONGEST_NOTE;
@@ -198,12 +199,14 @@ pub fn piece_answer(p: Place, label: Label, n: usize, exact: bool) -> Answer
     let standing = p.standing;
     let part = label.part;
     let had = count(p, part);
+    let of_label = of_edition(label.edition, p.terms.edition);
+    let own_label = done(of_label);
     need(
         sound(p),
         Answer::NotSound,
-        of_edition(
-            label.edition,
-            p.terms.edition,
+        need(
+            own_label,
+            of_label,
             need(
                 present(standing) <= rank(part),
                 Answer::EarlierPart,
@@ -225,17 +228,21 @@ pub fn piece_answer(p: Place, label: Label, n: usize, exact: bool) -> Answer
 pub fn close_answer(p: Place, edition: Edition, wanted: usize, tag: usize) -> Answer
     ensures { λ r. ⌜ r ≡ closeAnswer p edition wanted tag ⌝ }
 {
-    let sound = sound(p);
-    let rest = of_edition(
-        edition,
-        p.terms.edition,
+    let of_close = of_edition(edition, p.terms.edition);
+    let own_close = done(of_close);
+    need(
+        sound(p),
+        Answer::NotSound,
         need(
-            counts_within(p),
-            Answer::OverLimit,
-            need(tag == wanted, Answer::TagLength, Answer::Done),
+            own_close,
+            of_close,
+            need(
+                counts_within(p),
+                Answer::OverLimit,
+                need(tag == wanted, Answer::TagLength, Answer::Done),
+            ),
         ),
-    );
-    need(sound, Answer::NotSound, rest)
+    )
 }
 
 // The place once a piece of n bytes is accepted; as it was where they would pass the limit.

@@ -1,6 +1,6 @@
 // What a session is begun for, and which edition of a job a session, a piece or a close is of.
 ghost use mathlib.Core.Path.{_≡_};
-ghost use Rattle.places.specs.Terms.{termsOk, ofEdition};
+ghost use Rattle.places.specs.Terms.{termsOk, editionAnswer};
 use answers::Answer;
 use answers::need;
 use rules::rounds_ok;
@@ -23,9 +23,13 @@ pub(crate) fn terms_ok(terms: Terms) -> bool
     rounds_ok(terms.rounds)
 }
 
-// A link of the chain of refusals: the edition that is given is the session's own.
-pub(crate) fn of_edition(given: Edition, own: Edition, rest: Answer) -> Answer
-    ensures { λ r. ⌜ r ≡ ofEdition given own rest ⌝ }
+// What an edition that is given is answered: 0 where it is the session's own.
+pub(crate) fn of_edition(given: Edition, own: Edition) -> Answer
+    ensures { λ r. ⌜ r ≡ editionAnswer given own ⌝ }
 {
-    need(given.revision == own.revision, Answer::OtherRevision, rest)
+    need(
+        given.revision == own.revision,
+        Answer::OtherRevision,
+        Answer::Done,
+    )
 }

@@ -1,15 +1,15 @@
--- `places::terms::of_edition` is one link of the chain.
+-- `places::terms::of_edition` is the chain of its definition.
 -- Assumes nothing.
 use mathlib.Core.Path.{refl}
 use borrow.Author.Needs.{needs}
 use Rattle.answers.specs.declared.Answer.the-variants.{OtherRevision}
 use Rattle.answers.proofs.Chain.{link}
-use Rattle.places.specs.Terms.{ofEdition}
+use Rattle.places.specs.Terms.{editionAnswer}
 use Rattle.places.proofs.terms.of_edition.Statement.{statement}
 use Rattle.places.proofs.terms.of_edition.Tie as tie
 
 returns : tie.Need-returns
-unfolding ofEdition
+unfolding editionAnswer
 returns c = link OtherRevision (c .need .ensures) refl refl refl
 
 pub of-edition-spec : {M : Type 1} → statement M
