@@ -207,11 +207,15 @@ fn open_aligned(s: State, rounds: u32, c: &[u8]) -> State
     open_left(t, rounds, &c[at..])
 }
 
-// A piece of a body's ciphertext: its message is taken in, and nothing is written.
+// A piece of a body's ciphertext: its message is taken in, and nothing is written; an empty one is nothing.
 pub fn open(s: State, rounds: u32, n: usize, c: &[u8]) -> State
     ensures { λ q. ⌜ q ≡ fed word32 rounds bodyMark s n (unfed word32 rounds s n (was c)) ⌝ }
 {
+    let len = c.len();
+    if len == 0 {
+        return s;
+    }
     let j = n % RATE;
-    let k = filling(j, c.len());
+    let k = filling(j, len);
     open_aligned(open_filling(s, rounds, j, &c[0..k]), rounds, &c[k..])
 }
