@@ -100,7 +100,8 @@ impl Sealing {
         if done(answer) {
             let words = self.words;
             let key = self.key;
-            let s = taken_at(rows(words), p, part, bytes, out);
+            let before = rows(words);
+            let s = taken_at(before, p, part, bytes, out);
             let next = Sealing::made(after(p, part, n), s, key);
             SealingStep {
                 answer,
