@@ -2,14 +2,15 @@
 -- Assumes nothing.
 use mathlib.Core.Path.{_≡_, refl, ap}
 use mathlib.Core.Bool.{Bool, true, false, _&&_, false≢true}
-use mathlib.Core.Logic.{_↔_, _≢_}
+use mathlib.Core.Logic.{⊎-elim, _↔_, _≢_}
 use Prim.Native.Nat.{ℕ, _+_, _≤_}
 use native.Mathlib.Omega.{arith}
 use borrow.Author.Tests.{leb-true, le-leb, eqb-true, eq-eqb}
 use lib.Dec.{leb, eqb}
 use Rattle.norx.specs.Norx.{Width, rowBytes}
-use Rattle.answers.specs.declared.Answer.the-variants.{Done, KeyLength, RoundsNumber, TagLength, OverLimit, NotSound}
+use Rattle.answers.specs.declared.Answer.the-variants.{Done, KeyLength, RoundsNumber, TagLength, OverLimit, OutputLength, EarlierPart, OtherOffset, NotSound}
 use Rattle.answers.specs.Answers.{numberOf, doneOf, needOf}
+use Rattle.answers.proofs.Tests.{either}
 use Rattle.answers.proofs.Chain.{done-zero, zero-done, passed, passes, link-not, both, and-true}
 use Rattle.rules.specs.Rules.{roundsOk, lengthsOk}
 use Rattle.rules.specs.Limits.{StartLimits}
@@ -171,27 +172,54 @@ sound-closes p wanted tag e f =
     let long : eqb tag wanted ≡ true = eq-eqb tag wanted f in
     rw (e, edition-own (p .terms .edition), within, long)
 
--- the numbers of a close are never answered 10
-pub close-no-tag : (p : Place) (edition : Edition) (wanted tag : ℕ) → numberOf (closeAnswer p edition wanted tag) ≢ 10
-unfolding closeAnswer
-close-no-tag p edition wanted tag =
-    link-not 10 (soundOf p) NotSound _ (λ e. omega arith)
-    (edition-not edition (p .terms .edition) _
-    (link-not 10 (countsWithin p) OverLimit _ (λ e. omega arith)
-    (link-not 10 (eqb tag wanted) TagLength Done (λ e. omega arith) (λ e. omega arith))))
+-- ---- 9 and 10
 
--- a closed place is not sound, so every call on it is answered 9
+-- behind soundness no link of a piece or of a close answers 9 or 10
+module _ (n : ℕ) (least : 9 ≤ n) (most : n ≤ 10) (p : Place) where
+  pub piece-not : (label : Label) (k : ℕ) (exact : Bool) → soundOf p ≡ true → numberOf (pieceAnswer p label k exact) ≢ n
+  unfolding pieceAnswer needOf
+  piece-not label k exact sound =
+      rw sound
+      (edition-not (label .edition) (p .terms .edition) _ n least most
+      (link-not n (leb (presentOf (p .standing)) (rankOf (label .part))) EarlierPart _ (λ e. omega arith)
+      (link-not n (eqb (label .offset) (countOf p (label .part))) OtherOffset _ (λ e. omega arith)
+      (link-not n (leb (countOf p (label .part) + k) (limitOf (label .part))) OverLimit _ (λ e. omega arith)
+      (link-not n exact OutputLength Done (λ e. omega arith) (λ e. omega arith))))))
+
+  pub close-not : (edition : Edition) (wanted tag : ℕ) → soundOf p ≡ true → numberOf (closeAnswer p edition wanted tag) ≢ n
+  unfolding closeAnswer needOf
+  close-not edition wanted tag sound =
+      rw sound
+      (edition-not edition (p .terms .edition) _ n least most
+      (link-not n (countsWithin p) OverLimit _ (λ e. omega arith) (link-not n (eqb tag wanted) TagLength Done (λ e. omega arith) (λ e. omega arith))))
+
+-- a place that is not sound is answered 9
+module _ (p : Place) (e : soundOf p ≡ false) where
+  pub unsound-piece : (label : Label) (n : ℕ) (exact : Bool) → pieceAnswer p label n exact ≡ NotSound
+  unfolding pieceAnswer needOf
+  unsound-piece label n exact = rw e
+
+  pub unsound-close : (edition : Edition) (wanted tag : ℕ) → closeAnswer p edition wanted tag ≡ NotSound
+  unfolding closeAnswer needOf
+  unsound-close edition wanted tag = rw e
+
+-- so neither is ever answered 10
+pub piece-never-10 : (p : Place) (label : Label) (n : ℕ) (exact : Bool) → numberOf (pieceAnswer p label n exact) ≢ 10
+piece-never-10 p label n exact =
+    ⊎-elim (λ (e : soundOf p ≡ true). piece-not 10 (omega arith) (omega arith) p label n exact e)
+    (λ (e : soundOf p ≡ false). λ z. let nine : numberOf (pieceAnswer p label n exact) ≡ 9 = ap numberOf (unsound-piece p e label n exact) in omega arith)
+    (either (soundOf p))
+
+pub close-never-10 : (p : Place) (edition : Edition) (wanted tag : ℕ) → numberOf (closeAnswer p edition wanted tag) ≢ 10
+close-never-10 p edition wanted tag =
+    ⊎-elim (λ (e : soundOf p ≡ true). close-not 10 (omega arith) (omega arith) p edition wanted tag e)
+    (λ (e : soundOf p ≡ false). λ z. let nine : numberOf (closeAnswer p edition wanted tag) ≡ 9 = ap numberOf (unsound-close p e edition wanted tag) in omega arith)
+    (either (soundOf p))
+
+-- a closed place is not sound
 closed-at : (s : Standing) (p : Place) → s ≡ Closed → soundAt s p ≡ false
 closed-at s p e = ap (λ (z : Standing). soundAt z p) e
 
 pub closed-unsound : (p : Place) → p .standing ≡ Closed → soundOf p ≡ false
 unfolding soundOf
 closed-unsound p e = closed-at (p .standing) p e
-
-pub closed-piece : (p : Place) (label : Label) (n : ℕ) (exact : Bool) → p .standing ≡ Closed → pieceAnswer p label n exact ≡ NotSound
-unfolding pieceAnswer needOf
-closed-piece p label n exact e = rw (closed-unsound p e)
-
-pub closed-close : (p : Place) (edition : Edition) (wanted tag : ℕ) → p .standing ≡ Closed → closeAnswer p edition wanted tag ≡ NotSound
-unfolding closeAnswer needOf
-closed-close p edition wanted tag e = rw (closed-unsound p e)

@@ -18,7 +18,7 @@ use Rattle.places.specs.declared.Label.{Label}
 use Rattle.places.specs.declared.Standing.{Standing}
 use Rattle.places.specs.declared.Standing.the-variants.{Closed, Open}
 use Rattle.places.specs.declared.Place.{Place}
-use Rattle.places.specs.Terms.{noTerms, termsOk, ofEdition}
+use Rattle.places.specs.Terms.{noTerms, termsOk, editionLink}
 
 -- ---- Parts
 
@@ -104,7 +104,7 @@ startAnswer row T key nonce = needOf (roundsOk (T .rounds)) RoundsNumber (needOf
 unfoldable pub pieceAnswer : Place → Label → ℕ → Bool → Answer
 pieceAnswer p label n exact =
     needOf (soundOf p) NotSound
-    (ofEdition (label .edition) (p .terms .edition)
+    (editionLink (label .edition) (p .terms .edition)
     (needOf (leb (presentOf (p .standing)) (rankOf (label .part))) EarlierPart
     (needOf (eqb (label .offset) (countOf p (label .part))) OtherOffset
     (needOf (leb (countOf p (label .part) + n) (limitOf (label .part))) OverLimit
@@ -120,7 +120,7 @@ sealExact Trailer n out = eqb out 0
 unfoldable pub closeAnswer : Place → Edition → ℕ → ℕ → Answer
 closeAnswer p edition wanted tag =
     needOf (soundOf p) NotSound
-    (ofEdition edition (p .terms .edition)
+    (editionLink edition (p .terms .edition)
     (needOf (countsWithin p) OverLimit
     (needOf (eqb tag wanted) TagLength Done)))
 

@@ -21,12 +21,12 @@ abbrev pub termsOk : Terms → Bool
 termsOk T = roundsOk (T .rounds)
 
 -- what an edition that is given is answered: 0 where it is the session's own
-unfoldable pub editionAnswer : Edition → Edition → Answer
-editionAnswer given own = needOf (eqb (given .revision) (own .revision)) OtherRevision Done
+unfoldable pub ofEdition : Edition → Edition → Answer
+ofEdition given own = needOf (eqb (given .revision) (own .revision)) OtherRevision Done
 
 -- the same as a link of the chains of refusals
-unfoldable pub ofEdition : Edition → Edition → Answer → Answer
-ofEdition given own rest = needOf (doneOf (editionAnswer given own)) (editionAnswer given own) rest
+unfoldable pub editionLink : Edition → Edition → Answer → Answer
+editionLink given own rest = needOf (doneOf (ofEdition given own)) (ofEdition given own) rest
 
 -- what stands in front of the note in the header of a session
 unfoldable pub frontOf : Edition → List ℕ

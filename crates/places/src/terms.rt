@@ -1,6 +1,6 @@
 // What a session is begun for, and which edition of a job a session, a piece or a close is of.
 ghost use mathlib.Core.Path.{_≡_};
-ghost use Rattle.places.specs.Terms.{termsOk, editionAnswer};
+ghost use Rattle.places.specs.Terms.{termsOk, ofEdition};
 use answers::Answer;
 use answers::need;
 use rules::rounds_ok;
@@ -25,7 +25,7 @@ pub(crate) fn terms_ok(terms: Terms) -> bool
 
 // What an edition that is given is answered: 0 where it is the session's own.
 pub(crate) fn of_edition(given: Edition, own: Edition) -> Answer
-    ensures { λ r. ⌜ r ≡ editionAnswer given own ⌝ }
+    ensures { λ r. ⌜ r ≡ ofEdition given own ⌝ }
 {
     need(
         given.revision == own.revision,

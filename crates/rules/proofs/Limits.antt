@@ -30,14 +30,14 @@ one-of : (a b : Bool) → (a || b) ≡ true → (a ≡ true) ⊎ (b ≡ true)
 one-of true b e = inl refl
 one-of false b e = inr e
 
-rounds-from : (l : ℕ) → roundsOk l ≡ true → (l ≡ 4) ⊎ (l ≡ 6)
+pub rounds-from : (l : ℕ) → roundsOk l ≡ true → (l ≡ 4) ⊎ (l ≡ 6)
 rounds-from l e = go (one-of (eqb l 4) (eqb l 6) e)
   where
     go : (eqb l 4 ≡ true) ⊎ (eqb l 6 ≡ true) → (l ≡ 4) ⊎ (l ≡ 6)
     go (inl h) = inl (eqb-true l 4 h)
     go (inr h) = inr (eqb-true l 6 h)
 
-rounds-to : (l : ℕ) → (l ≡ 4) ⊎ (l ≡ 6) → roundsOk l ≡ true
+pub rounds-to : (l : ℕ) → (l ≡ 4) ⊎ (l ≡ 6) → roundsOk l ≡ true
 rounds-to l (inl h) = ap roundsOk h
 rounds-to l (inr h) = ap roundsOk h
 

@@ -10,7 +10,7 @@ abbrev pub widthsLength : Width → ℕ
 widthsLength word32 = 16
 widthsLength word64 = 32
 
--- a session may be started, and a call be made: rounds are 4 or 6, and key and nonce have the width's length
+-- what a start asks, and every call first: rounds are 4 or 6, and key and nonce have the width's length
 pub record StartLimits (w : Width) (l key nonce : ℕ) : Type 0 where
   pub rounds : (l ≡ 4) ⊎ (l ≡ 6)
   pub key-long : key ≡ widthsLength w

@@ -30,8 +30,9 @@ module _ (w : Width) (l : ℕ) (key nonce header text trailer before : List ℕ)
   pub record Seals : Type 0 where
     -- where the limits are kept the answer is 0, and the output is what NORX 3.0 defines
     pub as-defined : MaySeal w l key nonce header text trailer before → (answer ≡ 0) × (after ≡ sealed w l (tagBits w) key nonce header text trailer)
-    -- 0 is answered nowhere else, and 10 nowhere
+    -- 0 is answered nowhere else
     pub only-there : answer ≡ 0 → MaySeal w l key nonce header text trailer before
+    -- and 10 nowhere: no tag is compared
     pub never-10 : answer ≢ 10
     pub leaves : LeavesBytes before answer after
 

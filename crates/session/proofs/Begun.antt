@@ -107,12 +107,14 @@ module _ (K : Kind) (L : Lawful K) (key nonce : List ℕ) (T : Terms) (begins : 
   pub session-is : (qs : List Piece) → afterStart K key nonce T qs ≡ heldBy K key nonce T (acceptedFrom K key nonce T qs)
   session-is qs = rw (started K L key nonce T begins) (session-held K L key nonce T qs)
 
+  -- it is open in the part of the last one
+  pub stands : (qs : List Piece) → K .place (afterStart K key nonce T qs) .standing ≡ Open (lastPart Note (acceptedFrom K key nonce T qs))
+  stands qs = ap (λ (s : K .Session). K .place s .standing) (session-is qs) ∙ ap (λ (p : Place). p .standing) (L .placed _ _ _)
+
   -- two sessions begun alike, in the same part, with the same joined pieces, are equal
   pub alike-is : (qs qs′ : List Piece) → K .place (afterStart K key nonce T qs) .standing ≡ K .place (afterStart K key nonce T qs′) .standing
       → ((part : Part) → joined part (acceptedFrom K key nonce T qs) ≡ joined part (acceptedFrom K key nonce T qs′)) → afterStart K key nonce T qs ≡ afterStart K key nonce T qs′
   alike-is qs qs′ same-standing e =
-      let stands : (xs : List Piece) → K .place (afterStart K key nonce T xs) .standing ≡ Open (lastPart Note (acceptedFrom K key nonce T xs)) =
-      λ xs. ap (λ (s : K .Session). K .place s .standing) (session-is xs) ∙ ap (λ (p : Place). p .standing) (L .placed _ _ _) in
       let same-part : lastPart Note (acceptedFrom K key nonce T qs) ≡ lastPart Note (acceptedFrom K key nonce T qs′) = ap part-of (sym (stands qs) ∙ same-standing ∙ stands qs′) in
       session-is qs
       ∙ (λ i. held K key nonce T (same-part i) (e Note i) (e Body i) (e Trailer i))

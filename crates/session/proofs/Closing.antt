@@ -21,7 +21,7 @@ use Rattle.places.specs.declared.Place.{Place}
 use Rattle.places.specs.Places.{closeAnswer}
 use Rattle.places.proofs.Accepts.{closable, closable-own, sound-closes}
 use Rattle.session.specs.Sessions.{verdictOf, Kind, closedOf, stateOf, tagLength, tagAt, ownTag, closeAnswerOf, closeOf}
-use Rattle.session.specs.Offered.{Piece, Close, close, stepOf, heldBy, joined}
+use Rattle.session.specs.Offered.{Piece, Close, heldBy, joined}
 use Rattle.session.specs.Promises.{Started}
 use Rattle.session.proofs.Refused.{Lawful, closeTo, verdict-number}
 use Rattle.session.proofs.Held.{place-held, state-held}
@@ -83,8 +83,8 @@ module _ (K : Kind) (L : Lawful K) (key nonce : List ℕ) (T : Terms) (begins : 
       (closable-own place (c .edition) (tagLength K) (length (c .tag)) done .1, closable place (c .edition) (tagLength K) (length (c .tag)) done .1)
 
   pub own-closes : (c : Close) → c .edition ≡ T .edition → length (c .tag) ≡ tagLength K
-      → (numberOf (K .answer (stepOf K (afterStart K key nonce T qs) (close c))) ≡ 0) ⊎ (numberOf (K .answer (stepOf K (afterStart K key nonce T qs) (close c))) ≡ 10)
+      → (numberOf (K .answer (closeOf K (afterStart K key nonce T qs) (c .edition) (c .tag))) ≡ 0) ⊎ (numberOf (K .answer (closeOf K (afterStart K key nonce T qs) (c .edition) (c .tag))) ≡ 10)
   own-closes c own-edition long =
-      let is : K .answer (stepOf K (afterStart K key nonce T qs) (close c)) ≡ verdictOf (K .way) (c .tag) (ownTag K at-end) =
+      let is : K .answer (closeOf K (afterStart K key nonce T qs) (c .edition) (c .tag)) ≡ verdictOf (K .way) (c .tag) (ownTag K at-end) =
       ap (λ (E : Edition). K .answer (closeOf K (afterStart K key nonce T qs) E (c .tag))) own-edition ∙ ap (λ (x : K .Step). K .answer x) (close-is (c .tag) long) ∙ L .answered _ _ in
       rw is (verdict-number K L (K .way) (c .tag) (ownTag K at-end))

@@ -14,13 +14,13 @@ use Rattle.places.specs.declared.Part.{Part}
 use Rattle.places.specs.declared.Standing.{Standing}
 use Rattle.places.specs.declared.Standing.the-variants.{Closed, Open}
 use Rattle.places.proofs.Accepts.{closable-own, closed-unsound}
-use Rattle.session.specs.Sessions.{Way, sealing, checking, Kind, tagLength, closeAnswerOf, closeTag}
-use Rattle.session.specs.Offered.{Close, Call, close, tagThen, numberTo, joined, heldBy}
-use Rattle.session.specs.Promises.{StillOpen, begun, sessionAfter, OwnClose, TakesPieces, ClosesUnderItsOwn, StartsWithinLimits, OneSession, Alike, WithinOneCall, OneSealing, OneOpening, Promised}
+use Rattle.session.specs.Sessions.{sealing, checking, Kind, tagLength, closeAnswerOf}
+use Rattle.session.specs.Offered.{Close, Call, close, numberTo, joined, heldBy}
+use Rattle.session.specs.Promises.{StillOpen, begun, sessionAfter, OwnClose, TakesPieces, ClosesUnderItsOwn, OpenUntilClosed, StartsWithinLimits, OneSession, Alike, WithinOneCall, OneSealing, OneOpening, Promised}
 use Rattle.session.proofs.Pieces.{afterAll}
-use Rattle.session.proofs.Refused.{Lawful, closeTo, no-verdict, refusal-changes-nothing, close-ends, closed-refuses}
-use Rattle.session.proofs.Calls.{piecesOf, AsPieces, as-pieces, without-refused}
-use Rattle.session.proofs.Begun.{not-started, start-limits-of, session-is, alike-is}
+use Rattle.session.proofs.Refused.{Lawful, closeTo, no-verdict, refuses-unsound, refusal-changes-nothing, no-piece-answers-10, close-ends, closed-refuses}
+use Rattle.session.proofs.Calls.{piecesOf, AsPieces, as-pieces, still-unclosed, without-refused}
+use Rattle.session.proofs.Begun.{not-started, start-limits-of, session-is, stands, alike-is}
 use Rattle.session.proofs.Closing.{tag-length, close-own, own-closes}
 use Rattle.session.proofs.Taking.{parts-within, takes-piece}
 use Rattle.session.proofs.OneSealing.{sealing-is}
@@ -40,7 +40,7 @@ module _ (K : Kind) (L : Lawful K) where
   Still key nonce T cs = StillOpen K (sessionAfter K key nonce T cs)
 
   as-its-pieces : (key nonce : List ℕ) (T : Terms) (cs : List Call) → Still key nonce T cs → AsPieces K (begun K key nonce T) cs
-  as-its-pieces key nonce T cs still = as-pieces K L cs (begun K key nonce T) still
+  as-its-pieces key nonce T cs still = as-pieces K L cs (begun K key nonce T) (still-unclosed K L cs (begun K key nonce T) still)
 
   starts : StartsWithinLimits K
   starts key nonce T = (start-limits-of K L key nonce T, not-started K L key nonce T)
@@ -52,6 +52,15 @@ module _ (K : Kind) (L : Lawful K) where
 
   is-open : (part : Part) (s : Standing) → s ≡ Open part → s ≡ Closed → ⊥
   is-open part s e f = open-not-closed part (sym e ∙ f)
+
+  -- a session is open from its start until it is closed
+  open-until-closed : OpenUntilClosed K
+  open-until-closed key nonce T h cs = (
+    still-unclosed K L cs (begun K key nonce T),
+    λ unclosed.
+        let same-as = as-pieces K L cs (begun K key nonce T) unclosed in
+        is-open _ _ (ap (λ (s : K .Session). K .place s .standing) (same-as .session) ∙ stands K L key nonce T h (piecesOf cs)),
+  )
 
   alike : Alike K
   alike key nonce T h cs cs′ part e e′ joins =
@@ -82,7 +91,7 @@ module _ (K : Kind) (L : Lawful K) where
       false≢true (sym (closed-unsound (K .place s) z) ∙ sound)
 
   not-refused : (s : K .Session) (c : Close) → (numberTo K s (close c) ≡ 0) ⊎ (numberTo K s (close c) ≡ 10) → doneOf (closeTo K L s c) ≡ true
-  not-refused s c e = ⊎-elim (λ y. y) (λ y. absurd (no-verdict K L s c y e)) (either (doneOf (closeTo K L s c)))
+  not-refused s c e = ⊎-elim (λ y. y) (λ y. absurd (no-verdict K L s (c .edition) (c .tag) y e)) (either (doneOf (closeTo K L s c)))
 
   closes-own : ClosesUnderItsOwn K
   closes-own key nonce T h cs c = (from, to)
@@ -101,13 +110,16 @@ module _ (K : Kind) (L : Lawful K) where
   pub promised : Promised K
   promised = record {
     starts = starts;
-    refused = refusal-changes-nothing K L;
+    unsound = refuses-unsound K L;
+    refusals = refusal-changes-nothing K L;
+    no-piece-10 = no-piece-answers-10 K L;
     close-ends = close-ends K L;
     closed-refuses = closed-refuses K L;
+    open-until-closed = open-until-closed;
     one-session = one-session;
     alike = alike;
-    within = within;
     takes = takes;
+    within = within;
     closes = closes-own;
     without-refused = without-refused K L;
   }
@@ -116,9 +128,7 @@ module _ (K : Kind) (L : Lawful K) where
   one-sealing seals key nonce T h cs c own =
       let same-as = as-its-pieces key nonce T cs (own .0) in
       let long : length (c .tag) ≡ tagLength K = own .2 ∙ sym (tag-length K L) in
-      let tag : List ℕ = closeTag K (afterAll K (begun K key nonce T) (piecesOf cs)) (T .edition) (c .tag) in
-      let is-written : tagThen (K .way) (c .tag) tag ≡ tag = ap (λ (way : Way). tagThen way (c .tag) tag) seals in
-      rw (same-as .pieces, same-as .session, same-as .written, own .1, is-written)
+      rw (same-as .pieces, same-as .session, same-as .written, own .1)
       (sealing-is K L key nonce T h (piecesOf cs) seals (c .tag) long)
 
   pub one-opening : K .way ≡ checking → OneOpening K

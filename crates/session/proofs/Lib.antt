@@ -1,6 +1,7 @@
 pub mod Parts
 pub mod Steps
 pub mod Pieces
+pub mod Sound
 pub mod Refused
 pub mod Calls
 pub mod Joining

@@ -9,7 +9,7 @@ use native.Mathlib.Omega.{arith}
 use lib.ListN.{length, length-append}
 use lib.Seq.{take-at, drop-at}
 use Rattle.places.specs.declared.Part.{Part}
-use Rattle.norx.specs.Norx.{rowBytes, ciphertext, message, same, bodyPart, tagPart, recovered, opened}
+use Rattle.norx.specs.Norx.{rowBytes, message, same, bodyPart, tagPart, recovered, opened}
 use Rattle.norx.proofs.Bytes.{Bytes, bytes-append}
 use Rattle.answers.specs.declared.Answer.the-variants.{Done, TagDiffers}
 use Rattle.answers.specs.Answers.{numberOf, needOf}

@@ -16,7 +16,7 @@ use Rattle.rules.proofs.OneCall.{seal-done}
 use Rattle.places.specs.declared.terms.Terms.{Terms}
 use Rattle.places.specs.declared.Part.the-variants.{Note, Body, Trailer}
 use Rattle.session.specs.Sessions.{Way, sealing, verdictOf, Kind, tagLength, ownTag, closeAnswerOf, closeOf, closeTag}
-use Rattle.session.specs.Offered.{Piece, close, joined, headerOf, heldBy}
+use Rattle.session.specs.Offered.{Piece, joined, headerOf, heldBy}
 use Rattle.session.specs.Promises.{Started, begun, CompletesOneSealing}
 use Rattle.session.proofs.Pieces.{wroteAll}
 use Rattle.session.proofs.Refused.{Lawful}

@@ -5,6 +5,7 @@ use mathlib.Core.Bool.{Bool, true, false, false≢true}
 use mathlib.Core.Logic.{_⊎_, inl, inr, ⊎-elim, _≢_}
 use mathlib.Core.List.{List, [], _∷_, _++_}
 use Prim.Native.Nat.{ℕ}
+use native.Mathlib.Omega.{arith}
 use borrow.Author.Tests.{ne-eqb}
 use lib.ListN.{length}
 use Rattle.norx.specs.Norx.{tagBits, same}
@@ -13,13 +14,16 @@ use Rattle.answers.specs.declared.Answer.the-variants.{Done, NotSound, TagDiffe
 use Rattle.answers.specs.Answers.{numberOf, doneOf, needOf}
 use Rattle.answers.proofs.Tests.{either, cond-true, cond-false}
 use Rattle.answers.proofs.Chain.{zero-done}
-use Rattle.places.specs.declared.Standing.the-variants.{Closed}
+use Rattle.places.specs.declared.terms.Edition.{Edition}
+use Rattle.places.specs.declared.Label.{Label}
 use Rattle.places.specs.declared.Place.{Place}
-use Rattle.places.proofs.Accepts.{close-no-tag, closed-piece, closed-close}
-use Rattle.session.specs.Sessions.{Way, sealing, checking, verdictOf, Kind, closedOf, tagLength, ownTag, pieceAnswerOf, pieceOf, pieceOut, closeAnswerOf, closeOf, closeTag}
-use Rattle.session.specs.Offered.{Piece, Close, Call, piece, close, tagThen, stepOf, numberTo, afterCall, lentAfter, isAccepted, wrote}
-use Rattle.session.specs.Promises.{RefusalChangesNothing, CloseEnds, ClosedRefuses}
+use Rattle.places.specs.Places.{soundOf}
+use Rattle.places.proofs.Accepts.{piece-not, close-not, unsound-piece, unsound-close, piece-never-10, close-never-10, closed-unsound}
+use Rattle.session.specs.Sessions.{Way, sealing, checking, verdictOf, exactOf, Kind, closedOf, tagLength, ownTag, pieceAnswerOf, pieceOf, pieceOut, closeAnswerOf, closeOf, closeTag}
+use Rattle.session.specs.Offered.{Piece, Close, close, pieceNumber, closeNumber, afterCall, isAccepted, wrote}
+use Rattle.session.specs.Refusals.{RefusesUnsound, RefusalChangesNothing, CloseEnds, ClosedRefuses, NoPieceAnswers10, NoCloseAnswers10}
 use Rattle.session.proofs.Pieces.{afterPiece, afterAll, accepted, wroteAll}
+use Rattle.session.proofs.Sound.{sound-to, not-sound}
 
 -- a kind is lawful where what it puts together it takes apart again, and its tag is the width's
 pub record Lawful (K : Kind) : Type 0 where
@@ -31,25 +35,25 @@ pub record Lawful (K : Kind) : Type 0 where
   pub tagged : K .tagBits ≡ tagBits (K .width)
 
 module _ (K : Kind) (L : Lawful K) where
+  -- ---- a piece, by what its numbers are answered
+
+  pub piece-answered : (s : K .Session) (label : Label) (x out : List ℕ) → K .answer (pieceOf K s label x out) ≡ pieceAnswerOf K s label x out
+  unfolding pieceOf
+  piece-answered s label x out = L .answered _ _
+
+  piece-refused : (s : K .Session) (label : Label) (x out : List ℕ) → doneOf (pieceAnswerOf K s label x out) ≡ false
+      → (K .next (pieceOf K s label x out) ≡ s) × (pieceOut K s label x out ≡ out)
+  unfolding pieceOf pieceOut
+  piece-refused s label x out h = (L .stepped _ _ ∙ cond-false _ _ _ h, cond-false _ _ _ h)
+
   abbrev pub answerTo : K .Session → Piece → Answer
   answerTo s q = pieceAnswerOf K s (q .label) (q .bytes) (q .out)
 
-  pub answer-is : (s : K .Session) (q : Piece) → K .answer (stepOf K s (piece q)) ≡ answerTo s q
-  unfolding pieceOf
-  answer-is s q = L .answered _ _
-
   pub accepted-answer : (s : K .Session) (q : Piece) → isAccepted K s q ≡ doneOf (answerTo s q)
-  accepted-answer s q = ap doneOf (answer-is s q)
-
-  -- ---- a refused piece
+  accepted-answer s q = ap doneOf (piece-answered s (q .label) (q .bytes) (q .out))
 
   pub refused-session : (s : K .Session) (q : Piece) → isAccepted K s q ≡ false → afterPiece K s q ≡ s
-  unfolding pieceOf
-  refused-session s q h = L .stepped _ _ ∙ cond-false _ _ _ (sym (accepted-answer s q) ∙ h)
-
-  refused-out : (s : K .Session) (q : Piece) → isAccepted K s q ≡ false → pieceOut K s (q .label) (q .bytes) (q .out) ≡ q .out
-  unfolding pieceOut
-  refused-out s q h = cond-false _ _ _ (sym (accepted-answer s q) ∙ h)
+  refused-session s q h = piece-refused s (q .label) (q .bytes) (q .out) (sym (accepted-answer s q) ∙ h) .0
 
   pub session-without : (qs : List Piece) (s : K .Session) → afterAll K s qs ≡ afterAll K s (accepted K s qs)
   session-without [] s = refl
@@ -75,32 +79,44 @@ module _ (K : Kind) (L : Lawful K) where
 
   -- ---- a close, by what its numbers are answered
 
+  module _ (s : K .Session) (edition : Edition) (tag : List ℕ) where
+    abbrev a : Answer
+    a = closeAnswerOf K s edition tag
+
+    close-refused : doneOf (closeAnswerOf K s edition tag) ≡ false
+        → (K .answer (closeOf K s edition tag) ≡ closeAnswerOf K s edition tag) × (K .next (closeOf K s edition tag) ≡ s) × (closeTag K s edition tag ≡ tag)
+    unfolding closeOf closeTag
+    close-refused h = (
+      ap (λ (x : K .Step). K .answer x) (cond-false _ _ _ h) ∙ L .answered _ _,
+      ap (λ (x : K .Step). K .next x) (cond-false _ _ _ h) ∙ L .stepped _ _,
+      cond-false _ _ _ h,
+    )
+
+    close-ended : doneOf (closeAnswerOf K s edition tag) ≡ true
+        → (K .answer (closeOf K s edition tag) ≡ verdictOf (K .way) tag (ownTag K s)) × (K .next (closeOf K s edition tag) ≡ closedOf K)
+    unfolding closeOf
+    close-ended h = (
+      ap (λ (x : K .Step). K .answer x) (cond-true _ _ _ h) ∙ L .answered _ _,
+      ap (λ (x : K .Step). K .next x) (cond-true _ _ _ h) ∙ L .stepped _ _,
+    )
+
+    never-10 : numberOf a ≢ 10
+    unfolding closeAnswerOf
+    never-10 = close-never-10 (K .place s) edition (tagLength K) (length tag)
+
+    -- a close that its numbers refuse is answered neither 0 nor 10
+    pub no-verdict : doneOf (closeAnswerOf K s edition tag) ≡ false → (closeNumber K s edition tag ≡ 0) ⊎ (closeNumber K s edition tag ≡ 10) → ⊥
+    no-verdict e (inl z) = false≢true (sym e ∙ zero-done a (sym (ap numberOf (close-refused e .0)) ∙ z))
+    no-verdict e (inr z) = never-10 (sym (ap numberOf (close-refused e .0)) ∙ z)
+
   abbrev pub closeTo : K .Session → Close → Answer
   closeTo s c = closeAnswerOf K s (c .edition) (c .tag)
 
   pub refused-close : (s : K .Session) (c : Close) → doneOf (closeTo s c) ≡ false → afterCall K s (close c) ≡ s
-  unfolding closeOf
-  refused-close s c h = ap (λ (x : K .Step). K .next x) (cond-false _ _ _ h) ∙ L .stepped _ _
-
-  refused-answer : (s : K .Session) (c : Close) → doneOf (closeTo s c) ≡ false → K .answer (stepOf K s (close c)) ≡ closeTo s c
-  unfolding closeOf
-  refused-answer s c h = ap (λ (x : K .Step). K .answer x) (cond-false _ _ _ h) ∙ L .answered _ _
-
-  tag-kept : (way : Way) (tag : List ℕ) → tagThen way tag tag ≡ tag
-  tag-kept sealing tag = refl
-  tag-kept checking tag = refl
-
-  refused-tag : (s : K .Session) (c : Close) → doneOf (closeTo s c) ≡ false → lentAfter K s (close c) ≡ c .tag
-  unfolding closeTag
-  refused-tag s c h = ap (tagThen (K .way) (c .tag)) (cond-false _ _ _ h) ∙ tag-kept (K .way) (c .tag)
+  refused-close s c h = close-refused s (c .edition) (c .tag) h .1
 
   pub ended-close : (s : K .Session) (c : Close) → doneOf (closeTo s c) ≡ true → afterCall K s (close c) ≡ closedOf K
-  unfolding closeOf
-  ended-close s c h = ap (λ (x : K .Step). K .next x) (cond-true _ _ _ h) ∙ L .stepped _ _
-
-  pub ended-answer : (s : K .Session) (c : Close) → doneOf (closeTo s c) ≡ true → K .answer (stepOf K s (close c)) ≡ verdictOf (K .way) (c .tag) (ownTag K s)
-  unfolding closeOf
-  ended-answer s c h = ap (λ (x : K .Step). K .answer x) (cond-true _ _ _ h) ∙ L .answered _ _
+  ended-close s c h = close-ended s (c .edition) (c .tag) h .1
 
   by-tag : (x : Bool) → (numberOf (needOf x TagDiffers Done) ≡ 0) ⊎ (numberOf (needOf x TagDiffers Done) ≡ 10)
   unfolding needOf
@@ -111,41 +127,83 @@ module _ (K : Kind) (L : Lawful K) where
   verdict-number sealing given own = inl refl
   verdict-number checking given own = by-tag (same given own)
 
+  ended-number : (s : K .Session) (edition : Edition) (tag : List ℕ) → doneOf (closeAnswerOf K s edition tag) ≡ true
+      → (closeNumber K s edition tag ≡ 0) ⊎ (closeNumber K s edition tag ≡ 10)
+  ended-number s edition tag e = rw (close-ended s edition tag e .0) (verdict-number (K .way) tag (ownTag K s))
+
   -- ---- the promises
 
   pub refusal-changes-nothing : RefusalChangesNothing K
-  refusal-changes-nothing s (piece q) h g =
-      let not-accepted : isAccepted K s q ≡ false = ne-eqb (numberTo K s (piece q)) 0 h in
-      (refused-session s q not-accepted, refused-out s q not-accepted)
-  refusal-changes-nothing s (close c) h g =
-      ⊎-elim
-      (λ (e : doneOf (closeTo s c) ≡ true).
-      let number : numberTo K s (close c) ≡ numberOf (verdictOf (K .way) (c .tag) (ownTag K s)) = ap numberOf (ended-answer s c e) in
-      absurd (⊎-elim (λ z. h (number ∙ z)) (λ z. g (number ∙ z)) (verdict-number (K .way) (c .tag) (ownTag K s))))
-      (λ (e : doneOf (closeTo s c) ≡ false). (refused-close s c e, refused-tag s c e))
-      (either (doneOf (closeTo s c)))
-
-  pub no-verdict : (s : K .Session) (c : Close) → doneOf (closeTo s c) ≡ false → (numberTo K s (close c) ≡ 0) ⊎ (numberTo K s (close c) ≡ 10) → ⊥
-  unfolding closeAnswerOf
-  no-verdict s c e (inl z) = false≢true (sym e ∙ zero-done (closeTo s c) (sym (ap numberOf (refused-answer s c e)) ∙ z))
-  no-verdict s c e (inr z) = close-no-tag (K .place s) (c .edition) (tagLength K) (length (c .tag)) (sym (ap numberOf (refused-answer s c e)) ∙ z)
+  refusal-changes-nothing = record {
+    pieces = λ s label x out h.
+        piece-refused s label x out
+        (ne-eqb (numberOf (pieceAnswerOf K s label x out)) 0 (λ z. h (ap numberOf (piece-answered s label x out) ∙ z)));
+    closes = λ s edition tag h g.
+        ⊎-elim
+        (λ (e : doneOf (closeAnswerOf K s edition tag) ≡ true). absurd (⊎-elim h g (ended-number s edition tag e)))
+        (λ (e : doneOf (closeAnswerOf K s edition tag) ≡ false). let was = close-refused s edition tag e in (was .1, was .2))
+        (either (doneOf (closeAnswerOf K s edition tag)));
+  }
 
   pub close-ends : CloseEnds K
-  close-ends s c h =
+  close-ends s edition tag h =
       ⊎-elim
-      (λ (e : doneOf (closeTo s c) ≡ true). ended-close s c e)
-      (λ (e : doneOf (closeTo s c) ≡ false). absurd (no-verdict s c e h))
-      (either (doneOf (closeTo s c)))
+      (λ (e : doneOf (closeAnswerOf K s edition tag) ≡ true). close-ended s edition tag e .1)
+      (λ (e : doneOf (closeAnswerOf K s edition tag) ≡ false). absurd (no-verdict s edition tag e h))
+      (either (doneOf (closeAnswerOf K s edition tag)))
 
-  pub closed-standing : K .place (closedOf K) .standing ≡ Closed
-  closed-standing = ap (λ (p : Place). p .standing) (L .placed _ _ _)
+  pub no-piece-answers-10 : NoPieceAnswers10 K
+  unfolding pieceAnswerOf
+  no-piece-answers-10 s label x out z =
+      piece-never-10 (K .place s) label (length x) (exactOf (K .way) (label .part) (length x) (length out)) (sym (ap numberOf (piece-answered s label x out)) ∙ z)
 
-  closed-number : (s : K .Session) → K .place s .standing ≡ Closed → (c : Call) → numberTo K s c ≡ 9
-  unfolding pieceAnswerOf closeAnswerOf
-  closed-number s e (piece q) = ap numberOf (answer-is s q ∙ closed-piece (K .place s) (q .label) (length (q .bytes)) _ e)
-  closed-number s e (close c) =
-      let answer : closeTo s c ≡ NotSound = closed-close (K .place s) (c .edition) (tagLength K) (length (c .tag)) e in
-      ap numberOf (refused-answer s c (ap doneOf answer) ∙ answer)
+  pub no-close-answers-10 : K .way ≡ sealing → NoCloseAnswers10 K
+  no-close-answers-10 seals s edition tag z =
+      ⊎-elim
+      (λ (e : doneOf (closeAnswerOf K s edition tag) ≡ true).
+      let zero : closeNumber K s edition tag ≡ 0 = ap numberOf (close-ended s edition tag e .0 ∙ ap (λ (way : Way). verdictOf way tag (ownTag K s)) seals) in
+      omega arith)
+      (λ (e : doneOf (closeAnswerOf K s edition tag) ≡ false). no-verdict s edition tag e (inr z))
+      (either (doneOf (closeAnswerOf K s edition tag)))
+
+  -- ---- 9
+
+  unsound-piece-9 : (s : K .Session) (label : Label) (x out : List ℕ) → soundOf (K .place s) ≡ false → pieceNumber K s label x out ≡ 9
+  unfolding pieceAnswerOf
+  unsound-piece-9 s label x out e = ap numberOf (piece-answered s label x out ∙ unsound-piece (K .place s) e label (length x) _)
+
+  unsound-close-9 : (s : K .Session) (edition : Edition) (tag : List ℕ) → soundOf (K .place s) ≡ false → closeNumber K s edition tag ≡ 9
+  unfolding closeAnswerOf
+  unsound-close-9 s edition tag e =
+      let answer : closeAnswerOf K s edition tag ≡ NotSound = unsound-close (K .place s) e edition (tagLength K) (length tag) in
+      ap numberOf (close-refused s edition tag (ap doneOf answer) .0 ∙ answer)
+
+  sound-piece-9 : (s : K .Session) (label : Label) (x out : List ℕ) → soundOf (K .place s) ≡ true → pieceNumber K s label x out ≢ 9
+  unfolding pieceAnswerOf
+  sound-piece-9 s label x out e z =
+      piece-not 9 (omega arith) (omega arith) (K .place s) label (length x) (exactOf (K .way) (label .part) (length x) (length out)) e
+      (sym (ap numberOf (piece-answered s label x out)) ∙ z)
+
+  sound-close-9 : (s : K .Session) (edition : Edition) (tag : List ℕ) → soundOf (K .place s) ≡ true → closeNumber K s edition tag ≢ 9
+  unfolding closeAnswerOf
+  sound-close-9 s edition tag sound z =
+      ⊎-elim
+      (λ (e : doneOf (closeAnswerOf K s edition tag) ≡ true). ⊎-elim (λ y. omega arith) (λ y. omega arith) (ended-number s edition tag e))
+      (λ (e : doneOf (closeAnswerOf K s edition tag) ≡ false).
+      close-not 9 (omega arith) (omega arith) (K .place s) edition (tagLength K) (length tag) sound (sym (ap numberOf (close-refused s edition tag e .0)) ∙ z))
+      (either (doneOf (closeAnswerOf K s edition tag)))
+
+  pub refuses-unsound : RefusesUnsound K
+  refuses-unsound = record {
+    pieces = λ s label x out.
+        (λ e sound. sound-piece-9 s label x out (sound-to (K .place s) sound) e, λ never. unsound-piece-9 s label x out (not-sound (K .place s) never));
+    closes = λ s edition tag.
+        (λ e sound. sound-close-9 s edition tag (sound-to (K .place s) sound) e, λ never. unsound-close-9 s edition tag (not-sound (K .place s) never));
+  }
 
   pub closed-refuses : ClosedRefuses K
-  closed-refuses = (closed-standing, closed-number)
+  closed-refuses = record {
+    is-closed = ap (λ (p : Place). p .standing) (L .placed _ _ _);
+    pieces = λ s e label x out. unsound-piece-9 s label x out (closed-unsound (K .place s) e);
+    closes = λ s e edition tag. unsound-close-9 s edition tag (closed-unsound (K .place s) e);
+  }

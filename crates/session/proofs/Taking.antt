@@ -19,11 +19,12 @@ use Rattle.places.specs.declared.Part.the-variants.{Note, Body, Trailer}
 use Rattle.places.specs.declared.Place.{Place}
 use Rattle.places.specs.Places.{limitOf, countOf, pieceAnswer}
 use Rattle.places.proofs.Accepts.{sound-counts, accepted as accepts-known, accepted-own, accepted-at, accepts}
-use Rattle.session.specs.Sessions.{Way, sealing, checking, exactOf, Kind}
-use Rattle.session.specs.Offered.{Piece, piece, stepOf, joined, headerOf, heldBy}
-use Rattle.session.specs.Promises.{Started, most, ExactOutput, GoesOn}
+use Rattle.session.specs.Sessions.{Way, sealing, checking, exactOf, Kind, pieceOf}
+use Rattle.session.specs.Offered.{Piece, joined, headerOf, heldBy}
+use Rattle.session.specs.Refusals.{most}
+use Rattle.session.specs.Promises.{Started, ExactOutput, GoesOn}
 use Rattle.session.proofs.Joining.{header-long}
-use Rattle.session.proofs.Refused.{Lawful, answer-is}
+use Rattle.session.proofs.Refused.{Lawful, piece-answered}
 use Rattle.session.proofs.Held.{answer-held}
 use Rattle.session.proofs.Begun.{afterStart, acceptedFrom, noteOf, bodyOf, trailerOf, partOf, placeOf, session-is, stays-sound}
 
@@ -81,8 +82,8 @@ module _ (K : Kind) (L : Lawful K) (key nonce : List ℕ) (T : Terms) (begins : 
     abbrev exact : Bool
     exact = exactOf (K .way) k (length (q .bytes)) (length (q .out))
 
-    answered : K .answer (stepOf K (afterStart K key nonce T qs) (piece q)) ≡ pieceAnswer place (q .label) (length (q .bytes)) exact
-    answered = ap (λ (s : K .Session). K .answer (stepOf K s (piece q))) (session-is K L key nonce T begins qs) ∙ answer-is K L (heldBy K key nonce T (acceptedFrom K key nonce T qs)) q ∙ answer-held K L key nonce T part n b t q
+    answered : K .answer (pieceOf K (afterStart K key nonce T qs) (q .label) (q .bytes) (q .out)) ≡ pieceAnswer place (q .label) (length (q .bytes)) exact
+    answered = ap (λ (s : K .Session). K .answer (pieceOf K s (q .label) (q .bytes) (q .out))) (session-is K L key nonce T begins qs) ∙ piece-answered K L (heldBy K key nonce T (acceptedFrom K key nonce T qs)) (q .label) (q .bytes) (q .out) ∙ answer-held K L key nonce T part n b t q
 
     goes-on : doneOf (pieceAnswer place (q .label) (length (q .bytes)) exact) ≡ true → GoesOn (K .way) T (acceptedFrom K key nonce T qs) q
     goes-on h =
@@ -100,7 +101,7 @@ module _ (K : Kind) (L : Lawful K) (key nonce : List ℕ) (T : Terms) (begins : 
         accepts place (q .label) (length (q .bytes)) exact (stays-sound K L key nonce T begins qs) (g .own-edition) (le-leb _ _ (g .onward)) (g .at-count ∙ sym (counted k))
         (rw (counted k, most-is k) (g .room)) (exact-to (K .way) k (length (q .bytes)) (length (q .out)) (g .exact-output))
 
-    pub takes-piece : (numberOf (K .answer (stepOf K (afterStart K key nonce T qs) (piece q))) ≡ 0) ↔ GoesOn (K .way) T (acceptedFrom K key nonce T qs) q
+    pub takes-piece : (numberOf (K .answer (pieceOf K (afterStart K key nonce T qs) (q .label) (q .bytes) (q .out))) ≡ 0) ↔ GoesOn (K .way) T (acceptedFrom K key nonce T qs) q
     takes-piece = (
       λ e. goes-on (zero-done (pieceAnswer place (q .label) (length (q .bytes)) exact) (sym (ap numberOf answered) ∙ e)),
       λ g. ap numberOf (answered ∙ takes-it g),

@@ -1,4 +1,5 @@
--- Calls on a session one after another, pieces and closes in any order: which pieces are accepted, what they join to, and what a session that took them in holds.
+-- Calls on a session one after another, pieces and closes in any order, each by what `pieceOf` and `closeOf` give: which pieces are accepted, what they join to, and what
+-- a session that took them in holds.
 -- Assumes nothing.
 use Prim.Native.Nat.{ℕ}
 use mathlib.Core.Bool.{Bool, cond}
@@ -17,16 +18,16 @@ use Rattle.places.specs.declared.Standing.the-variants.{Open}
 use Rattle.places.specs.declared.Label.{Label}
 use Rattle.places.specs.declared.Place.{Place}
 use Rattle.places.specs.Terms.{frontOf}
-use Rattle.session.specs.Sessions.{Way, sealing, checking, flatOf, taken, Kind, pieceOf, pieceOut, closeOf, closeTag}
+use Rattle.session.specs.Sessions.{flatOf, taken, Kind, pieceOf, pieceOut, closeOf}
 
--- a piece as it is offered, with the output lent to it
+-- a piece as it is offered, with the output lent to it, which a checking session does not take
 pub record Piece : Type 0 where
   pub label : Label
   pub bytes : List ℕ
   pub out : List ℕ
   pub are-bytes : Bytes bytes
 
--- a close as it is offered, with the tag lent to it: one to be checked, or a buffer for one
+-- a close as it is offered, with the tag lent to it: one to be compared, or a buffer for one
 pub record Close : Type 0 where
   pub edition : Edition
   pub tag : List ℕ
@@ -38,27 +39,22 @@ pub data Call : Type 0 where
 
 -- ---- One call
 
--- what a tag that was lent holds where `own` is written: sealing writes it, checking only reads
-abbrev pub tagThen : Way → List ℕ → List ℕ → List ℕ
-tagThen sealing given own = own
-tagThen checking given own = given
-
 module _ (K : Kind) where
-  abbrev pub stepOf : K .Session → Call → K .Step
-  stepOf s (piece q) = pieceOf K s (q .label) (q .bytes) (q .out)
-  stepOf s (close c) = closeOf K s (c .edition) (c .tag)
+  -- the number that a piece is answered, and a close
+  abbrev pub pieceNumber : K .Session → Label → List ℕ → List ℕ → ℕ
+  pieceNumber s label x out = numberOf (K .answer (pieceOf K s label x out))
 
-  -- the number of its answer, and the session to go on with
+  abbrev pub closeNumber : K .Session → Edition → List ℕ → ℕ
+  closeNumber s edition tag = numberOf (K .answer (closeOf K s edition tag))
+
+  -- the number that a call is answered, and the session to go on with
   abbrev pub numberTo : K .Session → Call → ℕ
-  numberTo s c = numberOf (K .answer (stepOf s c))
+  numberTo s (piece q) = pieceNumber s (q .label) (q .bytes) (q .out)
+  numberTo s (close c) = closeNumber s (c .edition) (c .tag)
 
   abbrev pub afterCall : K .Session → Call → K .Session
-  afterCall s c = K .next (stepOf s c)
-
-  -- what the buffer that it was lent holds then
-  abbrev pub lentAfter : K .Session → Call → List ℕ
-  lentAfter s (piece q) = pieceOut K s (q .label) (q .bytes) (q .out)
-  lentAfter s (close c) = tagThen (K .way) (c .tag) (closeTag K s (c .edition) (c .tag))
+  afterCall s (piece q) = K .next (pieceOf K s (q .label) (q .bytes) (q .out))
+  afterCall s (close c) = K .next (closeOf K s (c .edition) (c .tag))
 
   -- whether a piece is answered 0
   abbrev pub isAccepted : K .Session → Piece → Bool
@@ -66,7 +62,7 @@ module _ (K : Kind) where
 
   -- what its output holds where it is
   abbrev pub wrote : K .Session → Piece → List ℕ
-  wrote s q = cond (isAccepted s q) (lentAfter s (piece q)) []
+  wrote s q = cond (isAccepted s q) (pieceOut K s (q .label) (q .bytes) (q .out)) []
 
   -- ---- Any list of calls
 

@@ -1,10 +1,10 @@
--- Demands 1 and 3 over a kind of session, in numbers and bytes. Demand 3 is stated of any list of calls after a start that is answered 0, pieces and closes in any
--- order, where the session is still open behind them.
+-- Demand 3 over a kind of session, in numbers and bytes, of any list of calls after a start that is answered 0, pieces and closes in any order, where the session is
+-- still open after them; and all that is promised of every kind.
 -- Assumes nothing.
 use Prim.Native.Nat.{ℕ, _+_, _≤_}
 use mathlib.Core.Path.{_≡_}
 use mathlib.Core.Logic.{_⊎_, _↔_, _≢_}
-use mathlib.Core.List.{List, _++_, map}
+use mathlib.Core.List.{List, [], _∷_, _++_, map}
 use lib.ListN.{length}
 use Rattle.norx.specs.Norx.{sealed}
 use Rattle.norx.specs.Texts.{SealsTo}
@@ -16,33 +16,9 @@ use Rattle.places.specs.declared.Part.{Part}
 use Rattle.places.specs.declared.Part.the-variants.{Note, Body, Trailer}
 use Rattle.places.specs.declared.Standing.the-variants.{Closed, Open}
 use Rattle.places.specs.Places.{rankOf}
-use Rattle.session.specs.Sessions.{Way, sealing, checking, Kind, closedOf, startOf}
-use Rattle.session.specs.Offered.{Piece, Close, Call, piece, close, numberTo, afterCall, lentAfter, afterCalls, acceptedIn, wroteIn, joined, lastPart, headerOf, heldBy}
-
--- the buffer that is lent to a call
-abbrev pub lent : Call → List ℕ
-lent (piece q) = q .out
-lent (close c) = c .tag
-
-module _ (K : Kind) where
-  abbrev pub StillOpen : K .Session → Type 0
-  StillOpen s = K .place s .standing ≢ Closed
-
--- ---- Demand 1, of any session at all
-
-module _ (K : Kind) where
-  -- an answer that is neither 0 nor 10 gives back the session and the buffer as they were
-  abbrev pub RefusalChangesNothing : Type 0
-  RefusalChangesNothing =
-      (s : K .Session) (c : Call) → numberTo K s c ≢ 0 → numberTo K s c ≢ 10 → (afterCall K s c ≡ s) × (lentAfter K s c ≡ lent c)
-
-  -- a close that is answered 0 or 10 gives back the closed session
-  abbrev pub CloseEnds : Type 0
-  CloseEnds = (s : K .Session) (c : Close) → (numberTo K s (close c) ≡ 0) ⊎ (numberTo K s (close c) ≡ 10) → afterCall K s (close c) ≡ closedOf K
-
-  -- that one is closed, and a closed session refuses every call with 9
-  abbrev pub ClosedRefuses : Type 0
-  ClosedRefuses = (K .place (closedOf K) .standing ≡ Closed) × ((s : K .Session) → K .place s .standing ≡ Closed → (c : Call) → numberTo K s c ≡ 9)
+use Rattle.session.specs.Sessions.{Way, sealing, checking, Kind, closedOf, startOf, closeTag}
+use Rattle.session.specs.Offered.{Piece, Close, Call, piece, close, numberTo, afterCall, afterCalls, acceptedIn, wroteIn, joined, lastPart, headerOf, heldBy}
+use Rattle.session.specs.Refusals.{most, RefusesUnsound, RefusalChangesNothing, CloseEnds, ClosedRefuses, NoPieceAnswers10}
 
 -- ---- A start
 
@@ -63,6 +39,16 @@ module _ (K : Kind) where
 
 -- ---- Demand 3
 
+module _ (K : Kind) where
+  abbrev pub StillOpen : K .Session → Type 0
+  StillOpen s = K .place s .standing ≢ Closed
+
+  -- no close among these calls is answered 0 or 10
+  abbrev pub Unclosed : K .Session → List Call → Type 0
+  Unclosed s [] = Unit {0}
+  Unclosed s (piece q ∷ cs) = Unclosed (afterCall K s (piece q)) cs
+  Unclosed s (close c ∷ cs) = (numberTo K s (close c) ≢ 0) × (numberTo K s (close c) ≢ 10) × Unclosed (afterCall K s (close c)) cs
+
 module _ (K : Kind) (key nonce : List ℕ) (T : Terms) (cs : List Call) where
   -- the session that a start gave, once these calls were made on it
   abbrev pub sessionAfter : K .Session
@@ -78,12 +64,6 @@ module _ (K : Kind) (key nonce : List ℕ) (T : Terms) (cs : List Call) where
   -- the header of one sealing of them: the front, and the joined note
   abbrev pub joinedHeader : List ℕ
   joinedHeader = headerOf T (joinedPart Note)
-
--- the most bytes of a part in a session
-abbrev pub most : Part → ℕ
-most Note = 65528
-most Body = 16777216
-most Trailer = 65536
 
 -- the exact length of an output: ciphertext is as long as the piece, and else nothing is written; a checking session takes no output
 abbrev pub ExactOutput : Way → Part → ℕ → ℕ → Type 0
@@ -103,7 +83,7 @@ pub record GoesOn (way : Way) (T : Terms) (before : List Piece) (q : Piece) : Ty
   pub exact-output : ExactOutput way (q .label .part) (length (q .bytes)) (length (q .out))
 
 module _ (K : Kind) (key nonce : List ℕ) (T : Terms) (header body trailer : List ℕ) where
-  -- a close that is answered so, where the ciphertext that was written, with the tag, is `text`, completes one sealing
+  -- a close completes one sealing: its answer, and `text`, which is the ciphertext that was written and the tag
   pub record CompletesOneSealing (answer : ℕ) (text : List ℕ) : Type 0 where
     pub answered : answer ≡ 0
     -- the text is what NORX 3.0 defines
@@ -116,7 +96,7 @@ module _ (K : Kind) (key nonce : List ℕ) (T : Terms) (header body trailer : Li
   abbrev pub MessageOf : List ℕ → List ℕ → Type 0
   MessageOf tag M = SealsTo (K .width) (T .rounds) (K .tagBits) key nonce header trailer (body ++ tag) M
 
-  -- a close that is answered so says what one opening says
+  -- a close says what one opening says: its answer, and the tag that it was given
   pub record AnswersOneOpening (answer : ℕ) (tag : List ℕ) : Type 0 where
     -- yes exactly when there is such a message, and no exactly when there is none
     pub yes : (answer ≡ 0) ↔ ((M : List ℕ) × MessageOf tag M)
@@ -125,6 +105,12 @@ module _ (K : Kind) (key nonce : List ℕ) (T : Terms) (header body trailer : Li
     pub as-one-call : (out : List ℕ) → length out ≡ length body → answer ≡ numberOf (openAnswer (K .width) (T .rounds) key nonce header (body ++ tag) trailer out)
 
 module _ (K : Kind) where
+  -- a session is open from its start until a close is answered 0 or 10
+  abbrev pub OpenUntilClosed : Type 0
+  OpenUntilClosed =
+      (key nonce : List ℕ) (T : Terms) → Started K key nonce T → (cs : List Call)
+      → StillOpen K (sessionAfter K key nonce T cs) ↔ Unclosed K (begun K key nonce T) cs
+
   -- the session is the one of the accepted pieces joined part by part
   abbrev pub OneSession : Type 0
   OneSession =
@@ -157,11 +143,11 @@ module _ (K : Kind) where
       (s : K .Session) (cs : List Call) → StillOpen K (afterCalls K s cs)
       → (afterCalls K s cs ≡ afterCalls K s (map piece (acceptedIn K s cs))) × (wroteIn K s cs ≡ wroteIn K s (map piece (acceptedIn K s cs)))
 
-  -- a session still open is closed under its own edition with a tag of the right length
+  -- a close of a session still open, under its own edition and with a tag of the right length
   abbrev pub OwnClose : (key nonce : List ℕ) (T : Terms) → List Call → Close → Type 0
   OwnClose key nonce T cs c = StillOpen K (sessionAfter K key nonce T cs) × (c .edition ≡ T .edition) × (length (c .tag) ≡ widthsLength (K .width))
 
-  -- and only such a close is answered 0 or 10
+  -- exactly such a close is answered 0 or 10
   abbrev pub ClosesUnderItsOwn : Type 0
   ClosesUnderItsOwn =
       (key nonce : List ℕ) (T : Terms) → Started K key nonce T → (cs : List Call) (c : Close)
@@ -173,7 +159,7 @@ module _ (K : Kind) where
       (key nonce : List ℕ) (T : Terms) → Started K key nonce T → (cs : List Call) (c : Close) → OwnClose key nonce T cs c
       → CompletesOneSealing K key nonce T (joinedHeader K key nonce T cs) (joinedPart K key nonce T cs Body) (joinedPart K key nonce T cs Trailer)
       (numberTo K (sessionAfter K key nonce T cs) (close c))
-      (wroteIn K (begun K key nonce T) cs ++ lentAfter K (sessionAfter K key nonce T cs) (close c))
+      (wroteIn K (begun K key nonce T) cs ++ closeTag K (sessionAfter K key nonce T cs) (c .edition) (c .tag))
 
   -- the close of a checking session says what one opening of the joined pieces and the tag says
   abbrev pub OneOpening : Type 0
@@ -185,12 +171,15 @@ module _ (K : Kind) where
 -- what is promised of every kind
 pub record Promised (K : Kind) : Type 0 where
   pub starts : StartsWithinLimits K
-  pub refused : RefusalChangesNothing K
+  pub unsound : RefusesUnsound K
+  pub refusals : RefusalChangesNothing K
+  pub no-piece-10 : NoPieceAnswers10 K
   pub close-ends : CloseEnds K
   pub closed-refuses : ClosedRefuses K
+  pub open-until-closed : OpenUntilClosed K
   pub one-session : OneSession K
   pub alike : Alike K
-  pub within : WithinOneCall K
   pub takes : TakesPieces K
+  pub within : WithinOneCall K
   pub closes : ClosesUnderItsOwn K
   pub without-refused : WithoutRefused K

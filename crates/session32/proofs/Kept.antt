@@ -2,8 +2,9 @@
 -- Assumes nothing.
 use mathlib.Core.Path.{refl}
 use Rattle.session32.specs.Kinds.{sealing32, checking32}
+use Rattle.session.specs.Refusals.{NoCloseAnswers10}
 use Rattle.session.specs.Promises.{Promised, OneSealing, OneOpening}
-use Rattle.session.proofs.Refused.{Lawful}
+use Rattle.session.proofs.Refused.{Lawful, no-close-answers-10}
 use Rattle.session.proofs.Demand.{promised, one-sealing, one-opening}
 
 lawful-sealing32 : Lawful sealing32
@@ -18,6 +19,9 @@ lawful-sealing32 = record {
 
 pub sealing32-promised : Promised sealing32
 sealing32-promised = promised sealing32 lawful-sealing32
+
+pub sealing32-no-close-10 : NoCloseAnswers10 sealing32
+sealing32-no-close-10 = no-close-answers-10 sealing32 lawful-sealing32 refl
 
 pub sealing32-one-sealing : OneSealing sealing32
 sealing32-one-sealing = one-sealing sealing32 lawful-sealing32 refl

@@ -2,8 +2,9 @@
 -- Assumes nothing.
 use mathlib.Core.Path.{refl}
 use Rattle.session64.specs.Kinds.{sealing64, checking64}
+use Rattle.session.specs.Refusals.{NoCloseAnswers10}
 use Rattle.session.specs.Promises.{Promised, OneSealing, OneOpening}
-use Rattle.session.proofs.Refused.{Lawful}
+use Rattle.session.proofs.Refused.{Lawful, no-close-answers-10}
 use Rattle.session.proofs.Demand.{promised, one-sealing, one-opening}
 
 lawful-sealing64 : Lawful sealing64
@@ -18,6 +19,9 @@ lawful-sealing64 = record {
 
 pub sealing64-promised : Promised sealing64
 sealing64-promised = promised sealing64 lawful-sealing64
+
+pub sealing64-no-close-10 : NoCloseAnswers10 sealing64
+sealing64-no-close-10 = no-close-answers-10 sealing64 lawful-sealing64 refl
 
 pub sealing64-one-sealing : OneSealing sealing64
 sealing64-one-sealing = one-sealing sealing64 lawful-sealing64 refl

@@ -4,12 +4,12 @@ use mathlib.Core.Path.{refl}
 use borrow.Author.Needs.{needs}
 use Rattle.answers.specs.declared.Answer.the-variants.{OtherRevision}
 use Rattle.answers.proofs.Chain.{link}
-use Rattle.places.specs.Terms.{editionAnswer}
+use Rattle.places.specs.Terms.{ofEdition}
 use Rattle.places.proofs.terms.of_edition.Statement.{statement}
 use Rattle.places.proofs.terms.of_edition.Tie as tie
 
 returns : tie.Need-returns
-unfolding editionAnswer
+unfolding ofEdition
 returns c = link OtherRevision (c .need .ensures) refl refl refl
 
 pub of-edition-spec : {M : Type 1} → statement M
