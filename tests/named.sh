@@ -1,6 +1,6 @@
 #!/bin/sh
 # Every crate of crates.txt is named in the drawing of the layers, as picture and as text, and in README's table of folders;
-# and no name there is of a crate that is gone.
+# and no name there is of a crate that is gone. The same of the must-fail edits and their table in CONTRACTS.md.
 
 set -eu
 cd "$(dirname "$0")/.."
@@ -24,3 +24,20 @@ for place in drawn written tabled; do
     fi
 done
 echo "$(echo "$listed" | wc -l) crates, each in the pictures and in README's table"
+
+edits=$(ls crates/*/must-fail/*.edit | sed 's/^crates\/\(.*\)\/must-fail\/\(.*\)\.edit$/\1\/\2/' | sort)
+rows=$(sed -n 's/^| `\([a-z0-9]*\/[a-z0-9_]*\)` |.*/\1/p' docs/CONTRACTS.md | sort)
+if [ "$edits" != "$rows" ]; then
+    echo "the edits and their table in docs/CONTRACTS.md differ in:"
+    printf '%s\n%s\n' "$edits" "$rows" | sort | uniq -u
+    exit 1
+fi
+cited=$(grep -Eo '\(`[a-z0-9_]*`\)|must-fail `[^|]*' docs/CONTRACTS.md | grep -Eo '`[a-z0-9_/]*_[a-z0-9_]*`' | tr -d '`' | sed 's/.*\///' | sort -u)
+known=$(echo "$edits" | sed 's/.*\///' | sort -u)
+gone=$(printf '%s\n%s\n%s\n' "$known" "$known" "$cited" | sort | uniq -u)
+if [ -n "$gone" ]; then
+    echo "docs/CONTRACTS.md cites edits that are not there:"
+    echo "$gone"
+    exit 1
+fi
+echo "$(echo "$edits" | wc -l) must-fail edits, each with its row"
