@@ -32,8 +32,8 @@ if [ "$edits" != "$rows" ]; then
     printf '%s\n%s\n' "$edits" "$rows" | sort | uniq -u
     exit 1
 fi
-cited=$(grep -Eo '\(`[a-z0-9_]*`\)|must-fail `[^|]*' docs/CONTRACTS.md | grep -Eo '`[a-z0-9_/]*_[a-z0-9_]*`' | tr -d '`' | sed 's/.*\///' | sort -u)
-known=$(echo "$edits" | sed 's/.*\///' | sort -u)
+cited=$(grep -Eo '\(`[a-z0-9_]*`\)|`[a-z0-9]+/[a-z0-9_]+`' docs/CONTRACTS.md | grep -Eo '[a-z0-9/]+_[a-z0-9_]+' | sort -u)
+known=$(echo "$edits" | sed 's/\(.*\)\/\(.*\)/\1\/\2\n\2/' | sort -u)
 gone=$(printf '%s\n%s\n%s\n' "$known" "$known" "$cited" | sort | uniq -u)
 if [ -n "$gone" ]; then
     echo "docs/CONTRACTS.md cites edits that are not there:"

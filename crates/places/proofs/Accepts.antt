@@ -1,4 +1,4 @@
--- What is known where a start, a piece or a close is answered 0.
+-- What is known where a start, a piece or a close is answered 0, and when it is; when it is answered 9, and that numbers alone are never answered 10; that a place stays sound.
 -- Assumes nothing.
 use mathlib.Core.Path.{_≡_, refl, ap}
 use mathlib.Core.Bool.{Bool, true, false, _&&_, false≢true}
@@ -203,7 +203,7 @@ module _ (p : Place) (e : soundOf p ≡ false) where
   unfolding closeAnswer needOf
   unsound-close edition wanted tag = rw e
 
--- so neither is ever answered 10
+-- so by its numbers alone neither is ever answered 10
 pub piece-never-10 : (p : Place) (label : Label) (n : ℕ) (exact : Bool) → numberOf (pieceAnswer p label n exact) ≢ 10
 piece-never-10 p label n exact =
     ⊎-elim (λ (e : soundOf p ≡ true). piece-not 10 (omega arith) (omega arith) p label n exact e)

@@ -1,4 +1,4 @@
--- The numbers that rule every call. What Norx.antt says of a width, the marks and the tag bits, and Front.antt of the front, is said there.
+-- The numbers that rule every call. Those of a width, the marks and the tag bits are in Norx.antt, and the front's length in Front.antt.
 -- Assumes nothing.
 use mathlib.Core.Bool.{Bool, _&&_, _||_}
 use Prim.Native.Nat.{ℕ, _-_, _/_}

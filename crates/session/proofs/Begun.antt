@@ -1,4 +1,4 @@
--- A session that a start gave: it is answered 0 exactly where the limits are kept; of any pieces offered to it, it holds those that it accepted, joined; and it stays sound.
+-- A start is answered 0 exactly where the limits are kept; of any pieces offered to the session that it gave, that holds those which it accepted, joined, and it stays sound.
 -- Assumes nothing.
 use mathlib.Core.Path.{_≡_, sym, ap, _∙_}
 use mathlib.Core.Bool.{true, false}

@@ -1,4 +1,4 @@
--- A refused call changes nothing, of any session; a close that is not refused gives back the closed session; and a closed session refuses every call.
+-- A refused call changes nothing, of any session; a close that is not refused gives back the closed session; 9 is answered exactly where a session is not sound, and 10 by the close of a check alone.
 -- Assumes nothing.
 use mathlib.Core.Path.{_≡_, refl, sym, ap, ap₂, _∙_}
 use mathlib.Core.Bool.{Bool, true, false, false≢true}

@@ -60,7 +60,7 @@ module _ (K : Kind) where
   abbrev pub isAccepted : K .Session → Piece → Bool
   isAccepted s q = eqb (numberTo s (piece q)) 0
 
-  -- what its output holds where it is
+  -- what the output of an accepted piece holds; of a refused one, nothing
   abbrev pub wrote : K .Session → Piece → List ℕ
   wrote s q = cond (isAccepted s q) (pieceOut K s (q .label) (q .bytes) (q .out)) []
 

@@ -1,5 +1,5 @@
--- Demand 3 over a kind of session, in numbers and bytes, of any list of calls after a start that is answered 0, pieces and closes in any order, where the session is
--- still open after them; and all that is promised of every kind.
+-- Demand 3 over a kind of session, in numbers and bytes, of any list of calls after a start that is answered 0, pieces and closes in any order; and all that is promised
+-- of every kind.
 -- Assumes nothing.
 use Prim.Native.Nat.{ℕ, _+_, _≤_}
 use mathlib.Core.Path.{_≡_}
@@ -26,12 +26,12 @@ module _ (K : Kind) (key nonce : List ℕ) (T : Terms) where
   abbrev pub Started : Type 0
   Started = numberOf (K .answer (startOf K key nonce T)) ≡ 0
 
-  -- the session that it gives
+  -- the session that a start gives
   abbrev pub begun : K .Session
   begun = K .next (startOf K key nonce T)
 
 module _ (K : Kind) where
-  -- it is answered 0 exactly where the limits are kept, and gives back the closed session where it is refused
+  -- a start is answered 0 exactly where the limits are kept, and gives back the closed session where it is refused
   abbrev pub StartsWithinLimits : Type 0
   StartsWithinLimits =
       (key nonce : List ℕ) (T : Terms)

@@ -55,7 +55,7 @@ module _ (K : Kind) where
       (s : K .Session) (edition : Edition) (tag : List ℕ) → (closeNumber K s edition tag ≡ 0) ⊎ (closeNumber K s edition tag ≡ 10)
       → K .next (closeOf K s edition tag) ≡ closedOf K
 
-  -- that one is closed, and a closed session refuses every call with 9
+  -- the session that a close gives back is closed, and a closed session refuses every call with 9
   pub record ClosedRefuses : Type 0 where
     pub is-closed : K .place (closedOf K) .standing ≡ Closed
     pub pieces : (s : K .Session) → K .place s .standing ≡ Closed → (label : Label) (x out : List ℕ) → pieceNumber K s label x out ≡ 9
