@@ -8,7 +8,7 @@ MAKEFLAGS += --no-print-directory
 
 # How many minutes make and make test take from nothing, measured on two cores.
 minutes_of_all = 7
-minutes_of_test = 13
+minutes_of_test = 14
 
 all:
 	@MINUTES=$(minutes_of_all) tests/progress.sh check
