@@ -8,6 +8,7 @@ use native.Mathlib.Omega.{arith}
 use borrow.Author.Tests.{leb-true, le-leb, eqb-true, eq-eqb}
 use lib.Dec.{leb, eqb}
 use Rattle.norx.specs.Norx.{Width, rowBytes}
+use Rattle.answers.specs.declared.Answer.{Answer}
 use Rattle.answers.specs.declared.Answer.the-variants.{Done, KeyLength, RoundsNumber, TagLength, OverLimit, OutputLength, EarlierPart, OtherOffset, NotSound}
 use Rattle.answers.specs.Answers.{numberOf, doneOf, needOf}
 use Rattle.answers.proofs.Tests.{either}
@@ -204,17 +205,17 @@ module _ (p : Place) (e : soundOf p ≡ false) where
   unsound-close edition wanted tag = rw e
 
 -- so by its numbers alone neither is ever answered 10
+never-10 : (p : Place) (a : Answer) → (soundOf p ≡ true → numberOf a ≢ 10) → (soundOf p ≡ false → a ≡ NotSound) → numberOf a ≢ 10
+never-10 p a sound unsound =
+    ⊎-elim sound (λ (e : soundOf p ≡ false). λ z. let nine : numberOf a ≡ 9 = ap numberOf (unsound e) in omega arith) (either (soundOf p))
+
 pub piece-never-10 : (p : Place) (label : Label) (n : ℕ) (exact : Bool) → numberOf (pieceAnswer p label n exact) ≢ 10
 piece-never-10 p label n exact =
-    ⊎-elim (λ (e : soundOf p ≡ true). piece-not 10 (omega arith) (omega arith) p label n exact e)
-    (λ (e : soundOf p ≡ false). λ z. let nine : numberOf (pieceAnswer p label n exact) ≡ 9 = ap numberOf (unsound-piece p e label n exact) in omega arith)
-    (either (soundOf p))
+    never-10 p (pieceAnswer p label n exact) (piece-not 10 (omega arith) (omega arith) p label n exact) (λ e. unsound-piece p e label n exact)
 
 pub close-never-10 : (p : Place) (edition : Edition) (wanted tag : ℕ) → numberOf (closeAnswer p edition wanted tag) ≢ 10
 close-never-10 p edition wanted tag =
-    ⊎-elim (λ (e : soundOf p ≡ true). close-not 10 (omega arith) (omega arith) p edition wanted tag e)
-    (λ (e : soundOf p ≡ false). λ z. let nine : numberOf (closeAnswer p edition wanted tag) ≡ 9 = ap numberOf (unsound-close p e edition wanted tag) in omega arith)
-    (either (soundOf p))
+    never-10 p (closeAnswer p edition wanted tag) (close-not 10 (omega arith) (omega arith) p edition wanted tag) (λ e. unsound-close p e edition wanted tag)
 
 -- a closed place is not sound
 closed-at : (s : Standing) (p : Place) → s ≡ Closed → soundAt s p ≡ false

@@ -12,7 +12,7 @@ use Rattle.answers.specs.declared.Answer.{Answer}
 use Rattle.answers.specs.Answers.{numberOf}
 use Rattle.rules.specs.OneCall.{sealAnswer, openAnswer}
 use Rattle.sealing.specs.Widths.{widthOf}
-use Rattle.sealing.specs.Promises.{LeavesBytes, Seals, Opens, NoWidth, SealsAt, OpensAt}
+use Rattle.sealing.specs.Promises.{LeavesBytes, Seals, Opens, AtWidth, SealsAt, OpensAt}
 use Rattle.sealing.proofs.Demand.{sealing-not, opening-not}
 
 pub width-32 : (n : ℕ) → n ≡ 32 → widthOf n ≡ some word32
@@ -27,7 +27,7 @@ pub width-none : (n : ℕ) → (n ≡ 32 → ⊥) → (n ≡ 64 → ⊥) → wid
 unfolding widthOf
 width-none n g h = rw (ne-eqb n 32 g, ne-eqb n 64 h)
 
--- ---- the promises at a width that a number means
+-- ---- the promises at a width number
 
 one-width : (w v : Width) → bits w ≡ bits v → w ≡ v
 one-width word32 word32 e = refl
@@ -35,43 +35,33 @@ one-width word32 word64 e = absurd (omega arith)
 one-width word64 word32 e = absurd (omega arith)
 one-width word64 word64 e = refl
 
--- it is neither 32 nor 64 only where it means none
-means-one : (w : Width) (n : ℕ) → n ≡ bits w → (n ≢ 32) × (n ≢ 64) → ⊥
-means-one word32 n e h = h .0 e
-means-one word64 n e h = h .1 e
+-- a number that means a width is 32 or 64
+means-one : (w : Width) (n : ℕ) → n ≡ bits w → n ≢ 32 → n ≢ 64 → ⊥
+means-one word32 n e g h = g e
+means-one word64 n e g h = h e
 
-no-eleven : (w : Width) (n answer : ℕ) → n ≡ bits w → answer ≢ 11 → NoWidth n answer
-no-eleven w n answer e h = (λ z. absurd (h z), λ g. absurd (means-one w n e g))
+module _ (Promise : Width → Type 0) (width : ℕ) (before : List ℕ) where
+  -- where it means one: what holds at that width, and never 11
+  at-one : (w : Width) → width ≡ bits w → {answer : ℕ} {after : List ℕ} → answer ≢ 11 → LeavesBytes before answer after → Promise w → AtWidth Promise width before answer after
+  at-one w e not-11 leaves h = record {
+    at-width = λ v f. rw (sym (one-width w v (sym e ∙ f))) h;
+    no-width = (λ z. absurd (not-11 z), λ z. absurd (means-one w width e (z .0) (z .1)));
+    leaves = leaves;
+  }
+
+  -- where it means none: 11, and every byte as it was
+  pub at-none : width ≢ 32 → width ≢ 64 → AtWidth Promise width before 11 before
+  at-none g h = record {
+    at-width = λ w e. absurd (means-one w width e g h);
+    no-width = (λ z. (g, h), λ z. refl);
+    leaves = record { kept = λ z y. refl; zeroed = λ z. absurd (omega arith) };
+  }
 
 module _ (width l : ℕ) (key nonce header text trailer before : List ℕ) {r : Answer} {after : List ℕ} where
   pub seals-at : (w : Width) → width ≡ bits w → r ≡ sealAnswer w l key nonce header text trailer before
       → Seals w l key nonce header text trailer before (numberOf r) after → SealsAt width l key nonce header text trailer before (numberOf r) after
-  seals-at w e is h = record {
-    at-width = λ v f. rw (sym (one-width w v (sym e ∙ f))) h;
-    no-width = no-eleven w width (numberOf r) e (λ z. sealing-not w l key nonce header text trailer before 11 (omega arith) (sym (ap numberOf is) ∙ z));
-    leaves = h .leaves;
-  }
+  seals-at w e is h = at-one _ width before w e (λ z. sealing-not w l key nonce header text trailer before 11 (omega arith) (sym (ap numberOf is) ∙ z)) (h .leaves) h
 
   pub opens-at : (w : Width) → width ≡ bits w → r ≡ openAnswer w l key nonce header text trailer before
       → Opens w l key nonce header text trailer before (numberOf r) after → OpensAt width l key nonce header text trailer before (numberOf r) after
-  opens-at w e is h = record {
-    at-width = λ v f. rw (sym (one-width w v (sym e ∙ f))) h;
-    no-width = no-eleven w width (numberOf r) e (λ z. opening-not w l key nonce header text trailer before 11 (omega arith) (sym (ap numberOf is) ∙ z));
-    leaves = h .leaves;
-  }
-
--- ---- where it means none: 11, and every byte as it was
-
-means-none : (width : ℕ) → width ≢ 32 → width ≢ 64 → (w : Width) → width ≡ bits w → ⊥
-means-none width g h word32 e = g e
-means-none width g h word64 e = h e
-
-module _ (width l : ℕ) (key nonce header text trailer before : List ℕ) (g : width ≢ 32) (h : width ≢ 64) where
-  eleven-leaves : LeavesBytes before 11 before
-  eleven-leaves = record { kept = λ z y. refl; zeroed = λ z. absurd (omega arith) }
-
-  pub seals-nowhere : SealsAt width l key nonce header text trailer before 11 before
-  seals-nowhere = record { at-width = λ w e. absurd (means-none width g h w e); no-width = (λ z. (g, h), λ z. refl); leaves = eleven-leaves }
-
-  pub opens-nowhere : OpensAt width l key nonce header text trailer before 11 before
-  opens-nowhere = record { at-width = λ w e. absurd (means-none width g h w e); no-width = (λ z. (g, h), λ z. refl); leaves = eleven-leaves }
+  opens-at w e is h = at-one _ width before w e (λ z. opening-not w l key nonce header text trailer before 11 (omega arith) (sym (ap numberOf is) ∙ z)) (h .leaves) h

@@ -49,17 +49,16 @@ module _ (w : Width) (l : ℕ) (key nonce header text trailer before : List ℕ)
 
 -- ---- The same where the width is given as a number
 
--- 11 exactly where it is neither 32 nor 64
-abbrev pub NoWidth : ℕ → ℕ → Type 0
-NoWidth width answer = (answer ≡ 11) ↔ ((width ≢ 32) × (width ≢ 64))
+pub record AtWidth (Promise : Width → Type 0) (width : ℕ) (before : List ℕ) (answer : ℕ) (after : List ℕ) : Type 0 where
+  -- what is promised at the width that the number means
+  pub at-width : (w : Width) → width ≡ bits w → Promise w
+  -- 11 exactly where it means none
+  pub no-width : (answer ≡ 11) ↔ ((width ≢ 32) × (width ≢ 64))
+  pub leaves : LeavesBytes before answer after
 
 module _ (width l : ℕ) (key nonce header text trailer before : List ℕ) (answer : ℕ) (after : List ℕ) where
-  pub record SealsAt : Type 0 where
-    pub at-width : (w : Width) → width ≡ bits w → Seals w l key nonce header text trailer before answer after
-    pub no-width : NoWidth width answer
-    pub leaves : LeavesBytes before answer after
+  abbrev pub SealsAt : Type 0
+  SealsAt = AtWidth (λ w. Seals w l key nonce header text trailer before answer after) width before answer after
 
-  pub record OpensAt : Type 0 where
-    pub at-width : (w : Width) → width ≡ bits w → Opens w l key nonce header text trailer before answer after
-    pub no-width : NoWidth width answer
-    pub leaves : LeavesBytes before answer after
+  abbrev pub OpensAt : Type 0
+  OpensAt = AtWidth (λ w. Opens w l key nonce header text trailer before answer after) width before answer after

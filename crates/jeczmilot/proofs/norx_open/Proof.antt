@@ -1,7 +1,9 @@
 -- `jeczmilot::norx_open` gives the number of the answer.
 -- Assumes nothing.
 use borrow.Author.Needs.{needs}
-use Rattle.jeczmilot.proofs.Numbers.{open-number}
+use Rattle.sealing.specs.Widths.{openAnswerAt, openOutAt}
+use Rattle.sealing.specs.Promises.{OpensAt}
+use Rattle.jeczmilot.proofs.Numbers.{as-number}
 use Rattle.jeczmilot.proofs.norx_open.Statement.{statement}
 use Rattle.jeczmilot.proofs.norx_open.Tie as tie
 
@@ -9,7 +11,10 @@ returns : tie.Need-returns
 returns c =
     let call = c .before .before .before in
     let x = call .before .before .before .before .before .before .before .before .args in
-    open-number (x .width) (x .rounds) (x .key .now) (x .nonce .now) (x .header .now) (x .sealed .now) (x .trailer .now) (x .out .now)
+    as-number
+    (openAnswerAt (x .width) (x .rounds) (x .key .now) (x .nonce .now) (x .header .now) (x .sealed .now) (x .trailer .now) (x .out .now))
+    (openOutAt (x .width) (x .rounds) (x .key .now) (x .nonce .now) (x .header .now) (x .sealed .now) (x .trailer .now) (x .out .now))
+    (OpensAt (x .width) (x .rounds) (x .key .now) (x .nonce .now) (x .header .now) (x .sealed .now) (x .trailer .now) (x .out .now))
     (c .number .ensures) (call .open .ensures .0) (call .open .ensures .1 .0) (call .open .ensures .1 .1)
 
 pub norx-open-spec : {M : Type 1} → statement M

@@ -1,7 +1,9 @@
 -- `jeczmilot::norx_seal` gives the number of the answer.
 -- Assumes nothing.
 use borrow.Author.Needs.{needs}
-use Rattle.jeczmilot.proofs.Numbers.{seal-number}
+use Rattle.sealing.specs.Widths.{sealAnswerAt, sealOutAt}
+use Rattle.sealing.specs.Promises.{SealsAt}
+use Rattle.jeczmilot.proofs.Numbers.{as-number}
 use Rattle.jeczmilot.proofs.norx_seal.Statement.{statement}
 use Rattle.jeczmilot.proofs.norx_seal.Tie as tie
 
@@ -9,7 +11,10 @@ returns : tie.Need-returns
 returns c =
     let call = c .before .before .before in
     let x = call .before .before .before .before .before .before .before .before .args in
-    seal-number (x .width) (x .rounds) (x .key .now) (x .nonce .now) (x .header .now) (x .body .now) (x .trailer .now) (x .out .now)
+    as-number
+    (sealAnswerAt (x .width) (x .rounds) (x .key .now) (x .nonce .now) (x .header .now) (x .body .now) (x .trailer .now) (x .out .now))
+    (sealOutAt (x .width) (x .rounds) (x .key .now) (x .nonce .now) (x .header .now) (x .body .now) (x .trailer .now) (x .out .now))
+    (SealsAt (x .width) (x .rounds) (x .key .now) (x .nonce .now) (x .header .now) (x .body .now) (x .trailer .now) (x .out .now))
     (c .number .ensures) (call .seal .ensures .0) (call .seal .ensures .1 .0) (call .seal .ensures .1 .1)
 
 pub norx-seal-spec : {M : Type 1} → statement M

@@ -3,7 +3,7 @@
 use borrow.Author.Needs.{needs}
 use Rattle.norx.specs.Norx.{word32, word64}
 use Rattle.sealing.specs.Widths.{openAnswerAt, openOutAt}
-use Rattle.sealing.proofs.Widths.{width-32, width-64, width-none, opens-at, opens-nowhere}
+use Rattle.sealing.proofs.Widths.{width-32, width-64, width-none, opens-at, at-none}
 use Rattle.sealing.proofs.open.Statement.{statement}
 use Rattle.sealing.proofs.open.Tie as tie
 
@@ -30,7 +30,7 @@ unfolding openAnswerAt openOutAt
 returns-3 c =
     let x = c .before .before .before .before .before .before .before .before .args in
     let e = width-none (x .width) (c .before .if1 .left) (c .if2 .left) in
-    (rw e, (rw e, opens-nowhere (x .width) (x .rounds) (x .key .now) (x .nonce .now) (x .header .now) (x .sealed .now) (x .trailer .now) (x .out .now) (c .before .if1 .left) (c .if2 .left)))
+    (rw e, (rw e, at-none _ (x .width) (x .out .now) (c .before .if1 .left) (c .if2 .left)))
 
 pub open-spec : {M : Type 1} → statement M
 open-spec = tie.close (tie.spec (λ c κs. search needs) (λ c. search needs) returns (λ c κs. search needs) (λ c. search needs) returns-2 returns-3)

@@ -6,6 +6,7 @@ use lib.ListN.{length}
 use Rattle.sponge32.proofs.pieces.seal.Statement.{statement}
 use Rattle.sponge32.proofs.pieces.seal.Tie as tie
 
+-- nothing is done only where the lengths differ
 returns-2 : tie.Need-returns-2
 returns-2 c =
     let x = c .before .before .before .args in
