@@ -11,13 +11,27 @@ failed=0
 left=$(grep -c '^try ' tests/outside.sh)
 mkdir -p target/log
 
+# On a terminal, the last line of a test's log stands below the last test while it is at work.
+follow_log() { # LOG
+    while sleep 1; do
+        printf '%s    %.70s' "$clear" "$(tail -n 1 "$1" 2>/dev/null)"
+    done
+}
+
 try() { # WHAT NAME COMMAND..
     what=$1
     log=target/log/outside-$2.out
     shift 2
     began=$(date +%s)
     status=0
+    follower=
+    if [ -t 1 ]; then
+        clear=$(printf '\r\033[K')
+        follow_log "$log" &
+        follower=$!
+    fi
     "$@" >"$log" 2>&1 || status=$?
+    [ -z "$follower" ] || kill "$follower"
     took="$(($(date +%s) - began)) s"
     left=$((left - 1))
     if [ "$status" -ne 0 ]; then
@@ -41,6 +55,8 @@ try "the header by itself" header tests/header.sh
 try "the rows on limits" limits tests/limits.sh
 try "the README's programs and story" readme tests/readme.sh
 try "beside an independent C code" differential tests/differential.sh
+try "calls from any program" calls tests/calls.sh
+try "sessions beside a model in C" sessions tests/sessions.sh
 echo "outside the proof: $passed passed, $failed failed"
 echo "$passed passed, $failed failed" >target/log/outside.out
 [ "$failed" -eq 0 ]

@@ -119,3 +119,22 @@ uint32_t reference_open(uint32_t width, uint32_t rounds, const uint8_t *key, siz
         memset(out, 0, out_len);
     return BAD_TAG;
 }
+
+void reference_constants(uint32_t width, uint64_t words[16])
+{
+    for (int i = 0; i < 16; i++)
+        words[i] = width == 32 ? constants_32[i] : constants_64[i];
+}
+
+void reference_words(uint32_t width, uint32_t rounds, const uint8_t *key, const uint8_t *nonce, const uint8_t *header,
+                     size_t header_len, const uint8_t *body, size_t body_len, const uint8_t *trailer,
+                     size_t trailer_len, unsigned present_part, int body_is_ciphertext, uint64_t words[16])
+{
+    const struct request r = {rounds,           {key, 0},         {nonce, 0}, {header, header_len},
+                              {body, body_len}, {trailer, trailer_len}};
+
+    if (width == 32)
+        words_between_calls_32(&r, present_part, body_is_ciphertext, words);
+    else
+        words_between_calls_64(&r, present_part, body_is_ciphertext, words);
+}

@@ -1,20 +1,22 @@
-// Runs the published numbers of NORX 3.0 and the numbers to try of sessions, and prints what comes out; the file stdout beside src/ has what must come out.
-mod constants;
-mod cuts;
-mod filled;
-mod limits;
-mod log;
-mod named;
-mod opening;
-mod published;
-mod text;
+// Reads calls from standard input, one a line, and writes a line for each: what the library answered and what it left behind. docs/VECTORS.md has the language.
+mod arguments;
+mod call;
+mod decode;
+mod held;
+mod input;
+mod lines;
+mod names;
+mod numbers;
+mod one_call;
+mod parts;
+mod room;
+mod sessions;
+mod tell;
+mod w32;
+mod w64;
 
 fn main() {
-    constants::print_all();
-    published::print_all();
-    opening::print_all();
-    limits::print_all();
-    log::print_all();
-    filled::print_all();
-    cuts::print_all();
+    let mut chunk = io::large_buffer();
+    let mut line = room::line();
+    lines::answer_all(&mut chunk, &mut line);
 }

@@ -1,0 +1,167 @@
+/* The calls of the language, each answered by the model. */
+
+#include <inttypes.h>
+
+#include "language.h"
+#include "norx.h"
+
+enum { UNTOUCHED = 0xa5 };
+
+static uint8_t *lend_output(struct model *m, size_t length)
+{
+    m->output.length = 0;
+    buffer_fill(&m->output, UNTOUCHED, length);
+    return m->output.at;
+}
+
+static void write_answer(struct model *m, uint32_t answer)
+{
+    buffer_print(&m->reply, "%" PRIu32, answer);
+}
+
+static void write_output(struct model *m, uint32_t answer, bool is_known)
+{
+    write_answer(m, answer);
+    buffer_print(&m->reply, " ");
+    if (is_known || m->output.length == 0)
+        buffer_hex(&m->reply, bytes_of(&m->output));
+    else
+        buffer_fill(&m->reply, '.', 2 * m->output.length);
+}
+
+static void write_words(struct model *m, uint32_t width, const uint64_t words[16], bool are_known)
+{
+    for (int i = 0; i < 16; i++) {
+        buffer_print(&m->reply, " ");
+        if (are_known)
+            buffer_print(&m->reply, "%0*" PRIx64, (int)width / 4, words[i]);
+        else
+            buffer_fill(&m->reply, '.', width / 4);
+    }
+}
+
+static bool answer_constants(struct model *m, const struct argument *a)
+{
+    uint64_t words[16];
+
+    reference_constants((uint32_t)a[0].number, words);
+    write_answer(m, DONE);
+    write_words(m, (uint32_t)a[0].number, words, true);
+    return true;
+}
+
+static bool answer_one_call(struct model *m, const struct argument *a)
+{
+    const struct buffer *key = &a[2].bytes, *nonce = &a[3].bytes, *header = &a[4].bytes, *body = &a[5].bytes,
+                        *trailer = &a[6].bytes;
+    uint8_t *out = lend_output(m, a[7].number);
+    uint32_t answer = (m->verb->kind == SEALING ? reference_seal : reference_open)(
+        (uint32_t)a[0].number, (uint32_t)a[1].number, key->at, key->length, nonce->at, nonce->length, header->at,
+        header->length, body->at, body->length, trailer->at, trailer->length, out, m->output.length);
+
+    write_output(m, answer, true);
+    return true;
+}
+
+static bool answer_start(struct model *m, const struct argument *a)
+{
+    write_answer(m, session_start(&m->session, m->verb->kind, (uint32_t)a[0].number, (uint32_t)a[1].number,
+                                  bytes_of(&a[2].bytes), bytes_of(&a[3].bytes), a[4].number));
+    return true;
+}
+
+static bool answer_piece(struct model *m, const struct argument *a)
+{
+    struct piece piece = {a[0].number, (unsigned)a[1].number, a[2].number, bytes_of(&a[3].bytes), a[4].number};
+    bool certain = session_is_certain(&m->session);
+    uint8_t *out = lend_output(m, piece.out_len);
+    uint32_t answer;
+
+    if (m->session.kind == CHECKING && piece.out_len != 0)
+        return false;
+    answer = session_piece(&m->session, &piece, m->is_quiet ? NULL : out);
+    write_output(m, answer, certain || answer != DONE);
+    return true;
+}
+
+static bool answer_close(struct model *m, const struct argument *a)
+{
+    bool certain = session_is_certain(&m->session);
+    uint8_t *out = lend_output(m, a[1].number);
+    uint32_t answer;
+
+    if (m->session.kind != m->verb->kind)
+        return false;
+    answer = session_close(&m->session, a[0].number, out, m->output.length);
+    write_output(m, answer, certain || answer != DONE);
+    return true;
+}
+
+static bool answer_check(struct model *m, const struct argument *a)
+{
+    bool certain = session_is_certain(&m->session);
+    uint32_t answer;
+
+    if (m->session.kind != m->verb->kind)
+        return false;
+    answer = session_check(&m->session, a[0].number, bytes_of(&a[1].bytes));
+    if (!certain && answer == DONE)
+        buffer_print(&m->reply, ".");
+    else
+        write_answer(m, answer);
+    return true;
+}
+
+/* A word's digits are those of its bytes from the last to the first. */
+static void write_key(struct model *m, const struct message *message)
+{
+    size_t word_bytes = message->width / 8;
+
+    for (size_t word = 0; word < 4; word++) {
+        buffer_print(&m->reply, " ");
+        for (size_t byte = word_bytes; byte > 0; byte--)
+            buffer_print(&m->reply, "%02x", message->key[word * word_bytes + byte - 1]);
+    }
+}
+
+static bool answer_show(struct model *m, const struct argument *a)
+{
+    const struct session *s = &m->session;
+    const struct numbers *n = &s->numbers;
+    uint64_t words[16];
+
+    (void)a;
+    session_words(s, words);
+    write_answer(m, DONE);
+    write_words(m, s->joined.width, words, s->words_are_known);
+    write_key(m, &s->joined);
+    buffer_print(&m->reply, " %" PRIu64 " %" PRIu64 " %" PRIu64 " %" PRIu32 " %" PRIu64 " %s", n->counts[NOTE],
+                 n->counts[BODY], n->counts[TRAILER], n->rounds, n->revision, standing_names[n->standing]);
+    return true;
+}
+
+static bool answer_put(struct model *m, const struct argument *a)
+{
+    m->session.numbers = (struct numbers){{a[0].number, a[1].number, a[2].number},
+                                          (uint32_t)a[3].number,
+                                          a[4].number,
+                                          (unsigned)a[5].number};
+    write_answer(m, DONE);
+    return true;
+}
+
+static const struct verb verbs[] = {
+    {"constants", "w", SEALING, answer_constants},  {"show", "", SEALING, answer_show},
+    {"seal", "iibbbbbn", SEALING, answer_one_call}, {"open", "iibbbbbn", CHECKING, answer_one_call},
+    {"sealing", "wibbu", SEALING, answer_start},    {"checking", "wibbu", CHECKING, answer_start},
+    {"close", "un", SEALING, answer_close},         {"check", "ub", CHECKING, answer_check},
+    {"piece", "upubn", SEALING, answer_piece},      {"put", "uuuius", SEALING, answer_put},
+};
+
+const struct verb *find_verb(struct bytes name)
+{
+    for (size_t i = 0; i < sizeof verbs / sizeof *verbs; i++)
+        if (word_is(name, verbs[i].name))
+            return &verbs[i];
+    return NULL;
+}

@@ -1,0 +1,45 @@
+/* Messages, and what the reference makes of them. */
+
+#include "message.h"
+
+#include "norx.h"
+
+const uint64_t part_limits[PARTS] = {65528, 16777216, 65536};
+
+size_t tag_length(uint32_t width)
+{
+    return width / 2;
+}
+
+void message_begin(struct message *message, uint64_t revision)
+{
+    struct buffer *note = &message->parts[NOTE];
+
+    note->length = 0;
+    for (int i = 0; i < REVISION_BYTES; i++)
+        buffer_fill(note, (uint8_t)(revision >> 8 * i), 1);
+}
+
+void message_seal(const struct message *m, struct buffer *sealed)
+{
+    const struct buffer *note = &m->parts[NOTE], *body = &m->parts[BODY], *trailer = &m->parts[TRAILER];
+    size_t tag = tag_length(m->width);
+
+    sealed->length = 0;
+    buffer_fill(sealed, 0, body->length + tag);
+    reference_seal(m->width, m->rounds, m->key, tag, m->nonce, tag, note->at, note->length, body->at, body->length,
+                   trailer->at, trailer->length, sealed->at, sealed->length);
+}
+
+uint32_t message_open(const struct message *m, struct bytes tag)
+{
+    static struct buffer sealed, opened;
+    const struct buffer *note = &m->parts[NOTE], *body = &m->parts[BODY], *trailer = &m->parts[TRAILER];
+
+    opened.length = sealed.length = 0;
+    buffer_fill(&opened, 0, body->length);
+    buffer_add(&sealed, body->at, body->length);
+    buffer_add(&sealed, tag.at, tag.length);
+    return reference_open(m->width, m->rounds, m->key, tag.length, m->nonce, tag.length, note->at, note->length,
+                          sealed.at, sealed.length, trailer->at, trailer->length, opened.at, opened.length);
+}

@@ -1,0 +1,36 @@
+#ifndef MESSAGE_H
+#define MESSAGE_H
+
+#include "buffer.h"
+
+enum { NOTE, BODY, TRAILER, PARTS };
+
+enum { REVISION_BYTES = 8, LONGEST_TAG = 32 };
+
+/* The answers, from number 0 on. */
+enum {
+    DONE, BAD_KEY_OR_NONCE, BAD_ROUNDS, BAD_TAG_LENGTH, OVER_LIMIT, BAD_OUTPUT, BAD_REVISION, EARLIER_PART, BAD_OFFSET,
+    NOT_SOUND, BAD_TAG, BAD_WIDTH, ANSWERS
+};
+
+extern const uint64_t part_limits[PARTS];
+
+/* What a session has; in its note the revision's bytes stand in front. */
+struct message {
+    uint32_t width, rounds;
+    uint8_t key[LONGEST_TAG], nonce[LONGEST_TAG];
+    struct buffer parts[PARTS];
+};
+
+size_t tag_length(uint32_t width);
+
+/* Puts the revision's bytes where the note begins. */
+void message_begin(struct message *message, uint64_t revision);
+
+/* Writes the ciphertext and the tag. */
+void message_seal(const struct message *message, struct buffer *sealed);
+
+/* Opens a message whose body is ciphertext. */
+uint32_t message_open(const struct message *message, struct bytes tag);
+
+#endif

@@ -1,0 +1,77 @@
+/* Scripts: sessions from start to close, with all that can go wrong on the way. */
+
+#include "script.h"
+
+#include "maker.h"
+
+enum { LINES = 2500 };
+
+static bool all_is_taken(struct maker *m)
+{
+    const struct session *s = &m->model.session;
+
+    for (unsigned part = 0; part < PARTS; part++)
+        if (s->numbers.counts[part] < job_part(&m->job, s->kind, part).length)
+            return false;
+    return true;
+}
+
+/* One step of a session, which mostly goes forward. */
+static void step(struct maker *m)
+{
+    size_t die = prng_below(&m->prng, 100);
+
+    if (die < 64)
+        send_piece(m, false);
+    else if (die < 82)
+        send_piece(m, true);
+    else if (die < 88)
+        send_close(m, true);
+    else if (die < 94)
+        send_invented(m);
+    else
+        send_one_call(m, !chance(m, 3));
+}
+
+/* A session of a new job or of the last one again, often to check what was sealed; seldom left open. */
+static void one_session(struct maker *m)
+{
+    enum kind kind = chance(m, 2) ? SEALING : CHECKING;
+    size_t steps = 20 + prng_below(&m->prng, 30);
+
+    if (chance(m, 2))
+        job_make(&m->job, &m->prng);
+    if (chance(m, 6))
+        send_start(m, kind, true);
+    if (chance(m, 8))
+        step(m);
+    send_start(m, kind, false);
+    for (; steps > 0 && m->model.session.numbers.standing != CLOSED; steps--)
+        if (all_is_taken(m) && chance(m, 2))
+            send_close(m, kind == CHECKING && chance(m, 3));
+        else
+            step(m);
+    for (size_t after = prng_below(&m->prng, 3); after > 0; after--)
+        step(m);
+}
+
+/* The last line has no newline. */
+static void sessions(struct buffer *script, struct prng prng)
+{
+    static struct maker maker;
+
+    maker_start(&maker, script, prng);
+    step(&maker);
+    while (maker.lines < LINES)
+        one_session(&maker);
+    script->length--;
+}
+
+void make_script(struct buffer *script, uint64_t seed, uint64_t number)
+{
+    script->length = 0;
+    if (number == SCRIPTS)
+        long_lines(script);
+    else
+        sessions(script, prng_start(seed, number));
+}
