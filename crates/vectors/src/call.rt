@@ -9,10 +9,9 @@ use crate::one_call;
 use crate::parts::part;
 use crate::room;
 use crate::sessions;
-use crate::sessions::Turn;
 use crate::sessions::no_call;
 
-pub(crate) fn called(line: &[u8], held: Held, is_quiet: bool) -> Turn {
+pub(crate) fn called(line: &[u8], held: Held, is_quiet: bool) -> Held {
     let end = bytes::scan::find(line, 0, line.len(), b' ');
     let k = find(part(line, 0, end), 0, STANDINGS);
     let mut memory = room::memory();
@@ -24,20 +23,11 @@ pub(crate) fn called(line: &[u8], held: Held, is_quiet: bool) -> Turn {
 }
 
 // Makes the call of a row of the names.
-fn made(k: usize, a: Arguments, memory: &[u8], held: Held, is_quiet: bool) -> Turn {
+fn made(k: usize, a: Arguments, memory: &[u8], held: Held, is_quiet: bool) -> Held {
     match k {
-        0 => Turn {
-            held,
-            written: one_call::constants(a, is_quiet),
-        },
-        1 => Turn {
-            held,
-            written: one_call::seal_or_open(false, a, memory, is_quiet),
-        },
-        2 => Turn {
-            held,
-            written: one_call::seal_or_open(true, a, memory, is_quiet),
-        },
+        0 => held.told(one_call::constants(a, is_quiet)),
+        1 => held.told(one_call::seal_or_open(false, a, memory, is_quiet)),
+        2 => held.told(one_call::seal_or_open(true, a, memory, is_quiet)),
         3 => sessions::start(false, a, memory, held),
         4 => sessions::start(true, a, memory, held),
         5 => sessions::piece(a, memory, held, is_quiet),

@@ -5,8 +5,10 @@ use places::Label;
 use places::terms::Edition;
 use places::terms::Terms;
 
-// Its words and its key at its width (those of the other width are of no account), and its numbers in the order in which they are shown: note, body, trailer, rounds, revision, and the row that names its standing.
+// Its words and its key at its width (those of the other width are of no account), and its numbers in the order in which they are shown: note, body, trailer, rounds, revision, and the row that names its standing. Beside it, the number of the last answer, and whether all lines so far were written.
 pub(crate) struct Held {
+    pub answer: u32,
+    pub written: bool,
     pub is_check: bool,
     pub is_wide: bool,
     pub words32: [u32; 16],
@@ -16,16 +18,12 @@ pub(crate) struct Held {
     pub numbers: [u64; 6],
 }
 
-// The number of what a call on the session answered, and the session that is held then.
-pub(crate) struct Answered {
-    pub answer: u32,
-    pub held: Held,
-}
-
 impl Held {
     // The closed session of a kind and a width.
     pub(crate) fn closed(is_check: bool, is_wide: bool) -> Held {
         Held {
+            answer: 0,
+            written: true,
             is_check,
             is_wide,
             words32: [0; 16],
@@ -36,7 +34,7 @@ impl Held {
         }
     }
 
-    pub(crate) fn start(self, key: &[u8], nonce: &[u8], terms: Terms) -> Answered {
+    pub(crate) fn start(self, key: &[u8], nonce: &[u8], terms: Terms) -> Held {
         if self.is_wide {
             w64::start(self, key, nonce, terms)
         } else {
@@ -45,7 +43,7 @@ impl Held {
     }
 
     // Offers a piece; a checking session leaves the output alone.
-    pub(crate) fn piece(self, label: Label, bytes: &[u8], out: &mut [u8]) -> Answered {
+    pub(crate) fn piece(self, label: Label, bytes: &[u8], out: &mut [u8]) -> Held {
         if self.is_wide {
             w64::piece(self, label, bytes, out)
         } else {
@@ -54,7 +52,7 @@ impl Held {
     }
 
     // Closes a sealing session.
-    pub(crate) fn close(self, edition: Edition, tag: &mut [u8]) -> Answered {
+    pub(crate) fn close(self, edition: Edition, tag: &mut [u8]) -> Held {
         if self.is_wide {
             w64::close(self, edition, tag)
         } else {
@@ -63,7 +61,7 @@ impl Held {
     }
 
     // Closes a checking session.
-    pub(crate) fn check(self, edition: Edition, tag: &[u8]) -> Answered {
+    pub(crate) fn check(self, edition: Edition, tag: &[u8]) -> Held {
         if self.is_wide {
             w64::check(self, edition, tag)
         } else {
@@ -71,9 +69,18 @@ impl Held {
         }
     }
 
+    // The same, where a line was written or not.
+    pub(crate) fn told(self, written: bool) -> Held {
+        Held { written, ..self }
+    }
+
     // The same session with other numbers.
     pub(crate) fn put(self, numbers: [u64; 6]) -> Held {
-        Held { numbers, ..self }
+        Held {
+            answer: 0,
+            numbers,
+            ..self
+        }
     }
 
     // The words of the session, and those of its key, each behind a space.

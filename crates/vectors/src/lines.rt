@@ -4,7 +4,6 @@ use crate::held::Held;
 use crate::input::Input;
 use crate::input::next_line;
 use crate::parts::part;
-use crate::sessions::Turn;
 use crate::sessions::no_call;
 use crate::tell;
 use libc::STDERR_FILENO;
@@ -23,9 +22,9 @@ pub(crate) fn answer_all(chunk: &mut [u8], line: &mut [u8]) {
     let mut lines = u64::MAX;
     while lines > 0 {
         input = next_line(input, chunk, line);
-        let turn = answered(held, input, line);
-        held = turn.held;
-        lines = if input.ended | !turn.written {
+        let next = answered(held, input, line);
+        held = next;
+        lines = if input.ended | !held.written {
             0
         } else {
             lines - 1
@@ -34,35 +33,29 @@ pub(crate) fn answer_all(chunk: &mut [u8], line: &mut [u8]) {
 }
 
 // Answers a line; where the input ended before it began there is none.
-fn answered(held: Held, input: Input, line: &[u8]) -> Turn {
+fn answered(held: Held, input: Input, line: &[u8]) -> Held {
     let n = input.gathered;
     if input.ended & (n == 0) {
-        return Turn {
-            held,
-            written: true,
-        };
+        return held;
     }
-    let turn = if n <= line.len() {
+    let next = if n <= line.len() {
         answer_to(held, &line[0..n])
     } else {
         no_call(held)
     };
-    if !turn.written {
+    if !next.written {
         io::write_all(
             STDERR_FILENO,
             b"vectors: standard output cannot be written\n",
         );
     }
-    turn
+    next
 }
 
 // Writes an empty line and a comment as they are, and else what the call is answered.
-fn answer_to(held: Held, line: &[u8]) -> Turn {
+fn answer_to(held: Held, line: &[u8]) -> Held {
     if is_comment(line) {
-        return Turn {
-            held,
-            written: tell::text(line) & tell::byte(b'\n'),
-        };
+        return held.told(tell::text(line) & tell::byte(b'\n'));
     }
     if same(part(line, 0, 6), b"quiet ") {
         return called(part(line, 6, line.len()), held, true);

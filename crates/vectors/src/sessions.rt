@@ -1,6 +1,5 @@
 // The calls on the session that is held. Each writes its line.
 use crate::arguments::Arguments;
-use crate::held::Answered;
 use crate::held::Held;
 use crate::names::part_of;
 use crate::numbers::terms;
@@ -11,32 +10,21 @@ use crate::tell;
 use places::Label;
 use places::terms::Edition;
 
-// The session that is held after a line, and whether all of the line was written.
-pub(crate) struct Turn {
-    pub held: Held,
-    pub written: bool,
-}
-
 // A line that is no call changes nothing.
-pub(crate) fn no_call(held: Held) -> Turn {
-    let written = tell::no_call();
-    Turn { held, written }
+pub(crate) fn no_call(held: Held) -> Held {
+    held.told(tell::no_call())
 }
 
-fn answer_alone(done: Answered) -> Turn {
-    let held = done.held;
-    let written = tell::answer(done.answer);
-    Turn { held, written }
+fn answer_alone(held: Held) -> Held {
+    held.told(tell::answer(held.answer))
 }
 
-fn with_output(done: Answered, out: &[u8], is_quiet: bool) -> Turn {
-    let held = done.held;
-    let written = tell::output(done.answer, out, is_quiet);
-    Turn { held, written }
+fn with_output(held: Held, out: &[u8], is_quiet: bool) -> Held {
+    held.told(tell::output(held.answer, out, is_quiet))
 }
 
 // W L KEY NONCE REVISION.
-pub(crate) fn start(is_check: bool, a: Arguments, memory: &[u8], held: Held) -> Turn {
+pub(crate) fn start(is_check: bool, a: Arguments, memory: &[u8], held: Held) -> Held {
     let width = a.numbers[0];
     if (width != 32) & (width != 64) {
         return no_call(held);
@@ -48,7 +36,7 @@ pub(crate) fn start(is_check: bool, a: Arguments, memory: &[u8], held: Held) -> 
 }
 
 // REVISION PART OFFSET BYTES N. A checking session takes no output.
-pub(crate) fn piece(a: Arguments, memory: &[u8], held: Held, is_quiet: bool) -> Turn {
+pub(crate) fn piece(a: Arguments, memory: &[u8], held: Held, is_quiet: bool) -> Held {
     let n = a.numbers[4] as usize;
     if held.is_check & (0 < n) {
         return no_call(held);
@@ -68,7 +56,7 @@ pub(crate) fn piece(a: Arguments, memory: &[u8], held: Held, is_quiet: bool) -> 
 }
 
 // REVISION N, of a sealing session.
-pub(crate) fn close(a: Arguments, held: Held, is_quiet: bool) -> Turn {
+pub(crate) fn close(a: Arguments, held: Held, is_quiet: bool) -> Held {
     if held.is_check {
         return no_call(held);
     }
@@ -82,7 +70,7 @@ pub(crate) fn close(a: Arguments, held: Held, is_quiet: bool) -> Turn {
 }
 
 // REVISION TAG, of a checking session.
-pub(crate) fn check(a: Arguments, memory: &[u8], held: Held) -> Turn {
+pub(crate) fn check(a: Arguments, memory: &[u8], held: Held) -> Held {
     if !held.is_check {
         return no_call(held);
     }
@@ -92,13 +80,12 @@ pub(crate) fn check(a: Arguments, memory: &[u8], held: Held) -> Turn {
     answer_alone(held.check(edition, part(memory, 0, a.numbers[1] as usize)))
 }
 
-pub(crate) fn show(held: Held, is_quiet: bool) -> Turn {
-    let written = if is_quiet {
-        tell::answer(0)
+pub(crate) fn show(held: Held, is_quiet: bool) -> Held {
+    if is_quiet {
+        held.told(tell::answer(0))
     } else {
-        shown(held)
-    };
-    Turn { held, written }
+        held.told(shown(held))
+    }
 }
 
 // 0, the words and the numbers.
@@ -108,12 +95,7 @@ fn shown(held: Held) -> bool {
 }
 
 // NOTE BODY TRAILER L REVISION STANDING.
-pub(crate) fn put(a: Arguments, held: Held) -> Turn {
+pub(crate) fn put(a: Arguments, held: Held) -> Held {
     let n = a.numbers;
-    let next = held.put([n[0], n[1], n[2], n[3], n[4], n[5]]);
-    let written = tell::answer(0);
-    Turn {
-        held: next,
-        written,
-    }
+    answer_alone(held.put([n[0], n[1], n[2], n[3], n[4], n[5]]))
 }

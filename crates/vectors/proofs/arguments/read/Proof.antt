@@ -1,3 +1,5 @@
+-- `vectors::arguments::read`: the words stay within the most that a call has, and the memory as long as it was.
+-- Assumes nothing.
 use mathlib.Core.Path.{_≡_}
 use Prim.Native.Nat.{_-_, _≤_}
 use lib.ListN.{length}

@@ -1,3 +1,5 @@
+-- `vectors::decode::decimal`: the place stays within the word.
+-- Assumes nothing.
 use Prim.Native.Nat.{_-_, _≤_}
 use lib.ListN.{length}
 use borrow.Author.Needs.{needs}

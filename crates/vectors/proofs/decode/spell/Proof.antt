@@ -1,3 +1,5 @@
+-- `vectors::decode::spell`: the place stays within the output.
+-- Assumes nothing.
 use mathlib.Core.Path.{_≡_}
 use Prim.Native.Nat.{_-_, _≤_}
 use lib.ListN.{length}

@@ -1,3 +1,5 @@
+-- `vectors::input::next_line`: the turns are counted down, and chunk and line stay as long as they were.
+-- Assumes nothing.
 use mathlib.Core.Path.{_≡_}
 use lib.ListN.{length}
 use borrow.Author.Needs.{needs}

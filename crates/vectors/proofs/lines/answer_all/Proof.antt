@@ -1,3 +1,5 @@
+-- `vectors::lines::answer_all`: the lines are counted down, and chunk and line stay as long as they were.
+-- Assumes nothing.
 use mathlib.Core.Path.{_≡_}
 use lib.ListN.{length}
 use borrow.Author.Needs.{needs}

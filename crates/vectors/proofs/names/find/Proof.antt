@@ -1,3 +1,5 @@
+-- `vectors::names::find`: the rows are counted up to the last.
+-- Assumes nothing.
 use Prim.Native.Nat.{_-_}
 use borrow.Author.Needs.{needs}
 use Rattle.vectors.proofs.names.find.Statement.{statement}

@@ -1,3 +1,5 @@
+-- `vectors::tell::spell`: the place stays within the bytes, and the output has two digits for each.
+-- Assumes nothing.
 use mathlib.Core.Path.{_≡_}
 use Prim.Native.Nat.{_*_, _-_, _≤_}
 use lib.ListN.{length, length-set}

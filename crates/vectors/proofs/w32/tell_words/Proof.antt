@@ -1,3 +1,5 @@
+-- `vectors::w32::tell_words`: the place stays within the words.
+-- Assumes nothing.
 use Prim.Native.Nat.{_-_, _≤_}
 use lib.ListN.{length}
 use borrow.Author.Needs.{needs}
