@@ -6,6 +6,7 @@
 
 #include "differential/cases.h"
 #include "differential/families.h"
+#include "differential/number.h"
 
 static void explain_and_exit(const char *program)
 {
@@ -18,16 +19,6 @@ static void explain_and_exit(const char *program)
     exit(2);
 }
 
-static uint64_t read_number(const char *program, const char *text)
-{
-    char *end;
-    uint64_t number = strtoull(text, &end, 10);
-
-    if (text[0] < '0' || text[0] > '9' || *end != '\0')
-        explain_and_exit(program);
-    return number;
-}
-
 static struct options read_options(int count, char **arguments)
 {
     struct options options = {.program = arguments[0], .runner = "", .seed = 3001};
@@ -37,16 +28,19 @@ static struct options read_options(int count, char **arguments)
     options.vectors = arguments[1];
     for (int i = 2; i < count; i += 2) {
         const char *value = arguments[i + 1];
+        bool is_right = true;
 
         if (strcmp(arguments[i], "--only") == 0)
             options.only = value;
         else if (strcmp(arguments[i], "--case") == 0)
-            options.only_number = read_number(options.program, value);
+            is_right = read_number(value, &options.only_number);
         else if (strcmp(arguments[i], "--seed") == 0)
-            options.seed = read_number(options.program, value);
+            is_right = read_number(value, &options.seed);
         else if (strcmp(arguments[i], "--runner") == 0)
             options.runner = value;
         else
+            is_right = false;
+        if (!is_right)
             explain_and_exit(options.program);
     }
     return options;

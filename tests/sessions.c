@@ -6,6 +6,7 @@
 #include <string.h>
 #include <sys/wait.h>
 
+#include "number.h"
 #include "sessions/hold.h"
 #include "sessions/script.h"
 
@@ -31,16 +32,6 @@ static void explain_and_exit(const char *program)
     exit(2);
 }
 
-static uint64_t read_number(const char *program, const char *text)
-{
-    char *end;
-    uint64_t number = strtoull(text, &end, 10);
-
-    if (text[0] < '0' || text[0] > '9' || *end != '\0')
-        explain_and_exit(program);
-    return number;
-}
-
 static struct options read_options(int count, char **arguments)
 {
     struct options options = {.program = arguments[1], .runner = "", .seed = 3001};
@@ -49,18 +40,17 @@ static struct options read_options(int count, char **arguments)
         explain_and_exit(arguments[0]);
     for (int i = 2; i < count; i += 2) {
         const char *value = arguments[i + 1];
+        bool is_right = true;
 
         if (strcmp(arguments[i], "--runner") == 0)
             options.runner = value;
         else if (strcmp(arguments[i], "--seed") == 0)
-            options.seed = read_number(arguments[0], value);
-        else if (strcmp(arguments[i], "--script") == 0)
-            options.script = read_number(arguments[0], value);
+            is_right = read_number(value, &options.seed);
         else
+            is_right = strcmp(arguments[i], "--script") == 0 && read_number(value, &options.script);
+        if (!is_right || options.script > SCRIPTS)
             explain_and_exit(arguments[0]);
     }
-    if (options.script > SCRIPTS)
-        explain_and_exit(arguments[0]);
     return options;
 }
 
