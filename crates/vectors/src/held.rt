@@ -1,4 +1,5 @@
 // The session that is held, of either kind and width, in plain numbers.
+use crate::names::CLOSED;
 use crate::w32;
 use crate::w64;
 use places::Label;
@@ -30,7 +31,7 @@ impl Held {
             key32: [0; 4],
             words64: [0; 16],
             key64: [0; 4],
-            numbers: [0, 0, 0, 0, 0, 10],
+            numbers: [0, 0, 0, 0, 0, CLOSED],
         }
     }
 

@@ -33,6 +33,9 @@ pub(crate) const PARTS: usize = 11;
 
 pub(crate) const END: usize = 14;
 
+// The row of the closed standing, as a session's numbers have it.
+pub(crate) const CLOSED: u64 = STANDINGS as u64;
+
 // The row of a name; that of no call where there is none.
 pub(crate) fn row(k: usize) -> [u8; 20] {
     if k < END { NAMES[k] } else { [b' '; 20] }
