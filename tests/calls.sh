@@ -19,7 +19,8 @@ head -c 1000000 /dev/urandom >target/tests/any-bytes
 $run target/bin/vectors <target/tests/any-bytes >target/tests/any-bytes.out
 lines=$(tr -cd '\n' <target/tests/any-bytes | wc -c)
 written=$(tr -cd '\n' <target/tests/any-bytes.out | wc -c)
-[ "$written" -ge "$lines" ] && [ "$written" -le $((lines + 1)) ]
+[ "$written" -ge "$lines" ]
+[ "$written" -le $((lines + 1)) ]
 echo "1000000 random bytes: a line for each of theirs, and status 0"
 
 # shellcheck disable=SC2086
