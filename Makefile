@@ -7,8 +7,8 @@ PREFIX ?= /usr/local
 MAKEFLAGS += --no-print-directory
 
 # How many minutes make and make test take from nothing, measured on two cores.
-minutes_of_all = 7
-minutes_of_test = 14
+minutes_of_all = 8
+minutes_of_test = 16
 
 all:
 	@MINUTES=$(minutes_of_all) tests/progress.sh check

@@ -1,124 +1,123 @@
 // The words of a call, read by their kinds.
-ghost use Prim.Native.Nat.{_<_};
-use crate::decode::decimal;
 use crate::decode::lay;
+use crate::decode::number;
 use crate::names::END;
 use crate::names::PARTS;
+use crate::names::Row;
 use crate::names::STANDINGS;
 use crate::names::WORDS;
 use crate::names::find;
 use crate::parts::part;
 use crate::room::BYTES_MOST;
+use calls::Words;
 
 // The most words behind a call's name.
 const MOST: usize = 8;
 
-// What the words say, each by a number: of bytes the place in the memory where they end; they begin where those of the word before ended, or at 0. And how far the line and the memory are used.
+const NONE: Words = Words {
+    first: 0,
+    second: 0,
+    third: 0,
+    fourth: 0,
+    fifth: 0,
+    sixth: 0,
+    seventh: 0,
+    eighth: 0,
+};
+
+// What the words behind a call's name say, and of the length of an output besides whether one is lent; where in the line the next word begins, how far the memory is used, and whether all of it was right.
 pub(crate) struct Arguments {
-    pub right: bool,
-    pub numbers: [u64; MOST],
+    pub words: Words,
+    pub lends: bool,
+    pub lent: usize,
     pub at: usize,
     pub used: usize,
+    pub right: bool,
 }
 
-// What one word says.
-struct Word {
-    right: bool,
-    number: u64,
-    used: usize,
+impl Arguments {
+    // The same with one word more: those that were read move on by one, so that after all turns the first is the first.
+    fn then(mut self, right: bool, number: usize) -> Arguments {
+        let w = self.words;
+        let words = Words {
+            first: w.second,
+            second: w.third,
+            third: w.fourth,
+            fourth: w.fifth,
+            fifth: w.sixth,
+            sixth: w.seventh,
+            seventh: w.eighth,
+            eighth: number,
+        };
+        self.words = words;
+        self.right = self.right & right;
+        self
+    }
 }
 
-// Reads the words behind a call's name, which ends at a place of the line: right where they are of these kinds, and no others follow.
-pub(crate) fn read(line: &[u8], end: usize, row: [u8; 20], memory: &mut [u8]) -> Arguments {
+// Reads the words of a line from a place on: right where they are of the kinds of a row, and no others follow.
+pub(crate) fn read(line: &[u8], at: usize, row: Row, memory: &mut [u8]) -> Arguments {
     let mut a = Arguments {
-        right: true,
-        numbers: [0; MOST],
-        at: end,
+        words: NONE,
+        lends: false,
+        lent: 0,
+        at,
         used: 0,
+        right: true,
     };
     let mut k = 0;
     while k < MOST {
-        let next = with_word(a, k, row[WORDS + k], line, memory);
+        let next = with_word(a, row[WORDS + k], line, memory);
         a = next;
         k += 1;
     }
-    let all = a.at == line.len();
-    Arguments {
-        right: a.right & all,
-        ..a
-    }
+    a.right = a.right & (line.len() < a.at);
+    a
 }
 
-// Reads the k'th word; the row's kinds end at a space.
-fn with_word(a: Arguments, k: usize, kind: u8, line: &[u8], memory: &mut [u8]) -> Arguments
-    requires { ⌜ k < 8 ⌝ }
-{
+// Reads the next word, which is of a kind. A row's kinds end at a space, which stands for no word.
+fn with_word(mut a: Arguments, kind: u8, line: &[u8], memory: &mut [u8]) -> Arguments {
     if kind == b' ' {
-        return a;
+        return a.then(true, 0);
     }
-    let mut numbers = a.numbers;
-    let end = next_end(line, a.at);
-    let word = behind(line, a.at, end);
-    let read = one(word, kind, memory, a.used);
-    numbers[k] = read.number;
-    Arguments {
-        right: a.right & read.right,
-        numbers,
-        at: end,
-        used: read.used,
+    let from = a.at;
+    if line.len() < from {
+        return a.then(false, 0);
     }
+    let end = bytes::scan::find(line, from, line.len(), b' ');
+    a.at = end + 1;
+    with(a, kind, part(line, from, end), memory)
 }
 
-// Where the word behind a space ends; at the space itself where none stands there.
-fn next_end(line: &[u8], at: usize) -> usize {
-    if at < line.len() {
-        bytes::scan::find(line, at + 1, line.len(), b' ')
-    } else {
-        at
-    }
-}
-
-// The word behind a space, up to its end.
-fn behind(line: &[u8], at: usize, end: usize) -> &[u8] {
-    if at < end {
-        part(line, at + 1, end)
-    } else {
-        part(line, 0, 0)
-    }
-}
-
-fn one(word: &[u8], kind: u8, memory: &mut [u8], used: usize) -> Word {
-    if kind == b'B' {
-        let laid = lay(word, memory, used);
-        return Word {
-            right: laid.right,
-            number: laid.to as u64,
-            used: laid.to,
-        };
-    }
-    if (kind == b'P') | (kind == b'S') {
-        let k = find(word, if kind == b'P' { PARTS } else { STANDINGS }, END);
-        return Word {
-            right: k < END,
-            number: k as u64,
-            used,
-        };
-    }
-    let number = decimal(word, most(kind));
-    Word {
-        right: number.right,
-        number: number.value,
-        used,
-    }
-}
-
-// The largest number of a kind.
-fn most(kind: u8) -> u64 {
-    if kind == b'W' {
-        u32::MAX as u64
-    } else if kind == b'N' {
-        BYTES_MOST as u64
-    } else {
-        u64::MAX
+// The same with a word that was found.
+fn with(mut a: Arguments, kind: u8, word: &[u8], memory: &mut [u8]) -> Arguments {
+    match kind {
+        b'B' => {
+            let laid = lay(word, memory, a.used);
+            a.used = laid.to;
+            a.then(laid.right, laid.to)
+        }
+        b'P' => {
+            let k = find(word, PARTS, END);
+            a.then(k < END, k - PARTS)
+        }
+        b'S' => {
+            let k = find(word, STANDINGS, END);
+            a.then(k < END, k - STANDINGS)
+        }
+        b'N' => {
+            let n = number(word, BYTES_MOST);
+            a.lends = true;
+            a.lent = n.value;
+            a.then(n.right, n.value)
+        }
+        b'W' => {
+            let n = number(word, u32::MAX as usize);
+            a.then(n.right, n.value)
+        }
+        _ => {
+            let n = number(word, usize::MAX);
+            a.then(n.right, n.value)
+        }
     }
 }

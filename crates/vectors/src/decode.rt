@@ -1,10 +1,13 @@
 // Words decoded: numbers and bytes. `right` says whether the word was one.
+ghost use Prim.Native.Nat.{_≤_};
 use crate::parts::part;
 use crate::room::BYTES_MOST;
+use decimal::Number;
+use decimal::read_number;
 
 pub(crate) struct Value {
     pub right: bool,
-    pub value: u64,
+    pub value: usize,
 }
 
 // Bytes that were laid into the memory, up to a place.
@@ -13,85 +16,51 @@ pub(crate) struct Laid {
     pub to: usize,
 }
 
-fn wrong() -> Value {
-    Value {
-        right: false,
-        value: 0,
-    }
-}
-
-// A number in decimal without leading zeros, of at most so much.
-pub(crate) fn decimal(word: &[u8], most: u64) -> Value {
-    if word.len() == 0 {
-        return wrong();
-    }
-    let zeros = (word[0] == b'0') & (1 < word.len());
-    let mut read = Value {
-        right: !zeros,
-        value: 0,
-    };
-    let mut i = 0;
-    while i < word.len() {
-        read = with_digit(read, word[i], most);
-        i += 1;
-    }
-    read
-}
-
-// The number with one digit more.
-fn with_digit(read: Value, b: u8, most: u64) -> Value {
-    let d = digit(b) as u64;
-    let value = read.value;
-    if !read.right | (9 < d) {
-        return wrong();
-    }
-    if most / 10 < value {
-        return wrong();
-    }
-    if most - value * 10 < d {
-        return wrong();
-    }
-    Value {
-        right: true,
-        value: value * 10 + d,
-    }
-}
-
-// What a hexadecimal digit stands for; 16 for any other byte.
-fn digit(b: u8) -> u8 {
-    if b < b'0' {
-        16
-    } else if b <= b'9' {
-        b - b'0'
-    } else if b < b'a' {
-        16
-    } else if b <= b'f' {
-        b - b'a' + 10
-    } else {
-        16
-    }
-}
-
-// How many bytes a word stands for: none (`-`), one byte so many times (`a5*300`), or a byte for each pair of digits.
-fn length(word: &[u8]) -> Value {
-    let n = word.len();
-    if n == 1 {
+// A number of at most so much.
+pub(crate) fn number(word: &[u8], most: usize) -> Value {
+    let Number::Value(n) = read_number(word) else {
         return Value {
-            right: word[0] == b'-',
+            right: false,
             value: 0,
         };
-    }
-    if is_repeat(word) {
-        let times = decimal(part(word, 3, n), BYTES_MOST as u64);
-        return Value {
-            right: times.right & (0 < times.value),
-            value: times.value,
-        };
-    }
+    };
+    let value = n as usize;
     Value {
-        right: (0 < n) & (n % 2 == 0) & (n / 2 <= BYTES_MOST),
-        value: (n / 2) as u64,
+        right: value <= most,
+        value,
     }
+}
+
+// What a hexadecimal digit stands for; more than a byte for any other byte.
+fn digit(b: u8) -> u16
+    ensures { λ r. ⌜ r ≤ 256 ⌝ }
+{
+    match b {
+        b'0'..=b'9' => (b - b'0') as u16,
+        b'a'..=b'f' => (b - b'a') as u16 + 10,
+        _ => 256,
+    }
+}
+
+// How many bytes a word stands for: none (`-`), one byte so many times (`a5*300`), or a byte for each pair of digits; more than the most where it is no such word.
+fn length(word: &[u8]) -> usize {
+    let n = word.len();
+    if is_repeat(word) {
+        let times = number(part(word, 3, n), BYTES_MOST);
+        if times.right & (0 < times.value) {
+            return times.value;
+        }
+        return BYTES_MOST + 1;
+    }
+    if n == 1 {
+        if word[0] == b'-' {
+            return 0;
+        }
+    }
+    if (n == 0) | (n % 2 == 1) {
+        return BYTES_MOST + 1;
+    }
+    n / 2
 }
 
 fn is_repeat(word: &[u8]) -> bool {
@@ -105,15 +74,13 @@ fn is_repeat(word: &[u8]) -> bool {
 // Lays the bytes of a word into the memory from a place on.
 pub(crate) fn lay(word: &[u8], memory: &mut [u8], from: usize) -> Laid {
     let n = length(word);
-    let size = n.value as usize;
-    if from <= memory.len() {
-        if size <= memory.len() - from {
-            let to = from + size;
-            let spelt = spell(word, &mut memory[from..to]);
-            return Laid {
-                right: n.right & spelt,
-                to,
-            };
+    if n <= BYTES_MOST {
+        if from <= memory.len() {
+            if n <= memory.len() - from {
+                let to = from + n;
+                let right = spell(word, &mut memory[from..to]);
+                return Laid { right, to };
+            }
         }
     }
     Laid {
@@ -125,26 +92,22 @@ pub(crate) fn lay(word: &[u8], memory: &mut [u8], from: usize) -> Laid {
 // Spells the bytes of a word out, where there is room for just these.
 fn spell(word: &[u8], out: &mut [u8]) -> bool {
     let repeats = is_repeat(word);
-    let mut right = true;
     let mut i = 0;
     while i < out.len() {
         let b = pair(word, if repeats { 0 } else { i });
-        right = right & b.right;
-        out[i] = (b.value % 256) as u8;
+        if 255 < b {
+            return false;
+        }
+        out[i] = b as u8;
         i += 1;
     }
-    right
+    true
 }
 
-// The byte of the i'th pair of digits.
-fn pair(word: &[u8], i: usize) -> Value {
+// The byte of the i'th pair of digits; more than a byte where it is none.
+fn pair(word: &[u8], i: usize) -> u16 {
     if word.len() / 2 <= i {
-        return wrong();
+        return 256;
     }
-    let high = digit(word[2 * i]);
-    let low = digit(word[2 * i + 1]);
-    Value {
-        right: (high < 16) & (low < 16),
-        value: (high % 16 * 16 + low % 16) as u64,
-    }
+    digit(word[2 * i]) * 16 + digit(word[2 * i + 1])
 }

@@ -1,71 +1,53 @@
 // Lines answered one by one.
 use crate::call::called;
-use crate::held::Held;
-use crate::input::Input;
-use crate::input::next_line;
+use crate::call::no_call;
 use crate::parts::part;
-use crate::sessions::no_call;
+use crate::room::LINE_MOST;
+use crate::run::Run;
 use crate::tell;
-use libc::STDERR_FILENO;
-use texts::same;
+use libc::STDOUT_FILENO;
 
-// Answers every line, until the input ends or a write fails; a last line needs no newline. A proved loop has to end, so it counts the lines down from a number that no run uses up.
-pub(crate) fn answer_all(chunk: &mut [u8], line: &mut [u8]) {
-    let mut held = Held::closed(false, true);
-    let mut input = Input {
-        from: 0,
-        to: 0,
-        gathered: 0,
-        line_ended: false,
-        ended: false,
-    };
-    let mut lines = u64::MAX;
-    while lines > 0 {
-        input = next_line(input, chunk, line);
-        let next = answered(held, input, line);
-        held = next;
-        lines = if input.ended | !held.written {
-            0
-        } else {
-            lines - 1
-        };
+// Takes what a read brought, as long as the run goes on: a newline ends a line, and any other byte is gathered. A read that brings nothing ends the run.
+pub(crate) fn with_read(mut run: Run, bytes: &[u8], line: &mut [u8]) -> Run {
+    run.goes_on = 0 < bytes.len();
+    let mut i = 0;
+    while i < bytes.len() {
+        let b = bytes[i];
+        run.gathered = gathered(line, run.gathered, b);
+        if b == b'\n' {
+            let next = answered(run, line);
+            run = next;
+        }
+        i = if run.goes_on { i + 1 } else { bytes.len() };
     }
+    run
 }
 
-// Answers a line; where the input ended before it began there is none.
-fn answered(held: Held, input: Input, line: &[u8]) -> Held {
-    let n = input.gathered;
-    if input.ended & (n == 0) {
-        return held;
+// Lays a byte other than a newline behind the first n of a line, as far as there is room, and gives how many there are then.
+fn gathered(line: &mut [u8], n: usize, b: u8) -> usize {
+    if b != b'\n' {
+        if n < line.len() {
+            line[n] = b;
+            return n + 1;
+        }
     }
-    let next = if n <= line.len() {
-        answer_to(held, &line[0..n])
+    n
+}
+
+// Answers the line that is gathered: one that is too long is no call, and an empty one and a comment are written as they are.
+pub(crate) fn answered(mut run: Run, line: &[u8]) -> Run {
+    let text = part(line, 0, run.gathered);
+    run.gathered = 0;
+    if LINE_MOST < text.len() {
+        return no_call(run);
+    }
+    let is_comment = if text.len() == 0 {
+        true
     } else {
-        no_call(held)
+        text[0] == b'#'
     };
-    if !next.written {
-        io::write_all(
-            STDERR_FILENO,
-            b"vectors: standard output cannot be written\n",
-        );
+    if is_comment {
+        return run.told(io::write_all(STDOUT_FILENO, text) & tell::byte(b'\n'));
     }
-    next
-}
-
-// Writes an empty line and a comment as they are, and else what the call is answered.
-fn answer_to(held: Held, line: &[u8]) -> Held {
-    if is_comment(line) {
-        return held.told(tell::text(line) & tell::byte(b'\n'));
-    }
-    if same(part(line, 0, 6), b"quiet ") {
-        return called(part(line, 6, line.len()), held, true);
-    }
-    called(line, held, false)
-}
-
-fn is_comment(line: &[u8]) -> bool {
-    if line.len() == 0 {
-        return true;
-    }
-    line[0] == b'#'
+    called(text, run)
 }

@@ -2,21 +2,38 @@
 mod arguments;
 mod call;
 mod decode;
-mod held;
 mod input;
 mod lines;
+mod made;
 mod names;
-mod numbers;
-mod one_call;
 mod parts;
 mod room;
-mod sessions;
+mod run;
+mod show;
 mod tell;
 mod w32;
 mod w64;
 
+use held::Held;
+use run::Run;
+
+// Answers every line, until the input ends, and with it a last line that has no newline, or a write fails. A proved loop has to end, so it counts its turns down from a number that no run uses up.
 fn main() {
     let mut chunk = io::large_buffer();
-    let mut line = room::line();
-    lines::answer_all(&mut chunk, &mut line);
+    let mut line = room::bytes();
+    let mut run = Run {
+        held: Held::closed(false, true),
+        is_quiet: false,
+        gathered: 0,
+        goes_on: true,
+    };
+    let mut turns = u64::MAX;
+    while turns > 0 {
+        let next = lines::with_read(run, input::read(&mut chunk), &mut line);
+        run = next;
+        turns = if run.goes_on { turns - 1 } else { 0 };
+    }
+    if 0 < run.gathered {
+        lines::answered(run, &line);
+    }
 }

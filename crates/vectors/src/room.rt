@@ -2,24 +2,16 @@
 ghost use mathlib.Core.Path.{_≡_};
 ghost use lib.ListN.{length};
 
-// The most bytes of a line, of an argument and of an output, and the most arguments of bytes that a call has.
+// The most bytes of a line, and of an argument and of an output.
 pub(crate) const LINE_MOST: usize = 400000;
 
 pub(crate) const BYTES_MOST: usize = 65632;
 
-pub(crate) const TEXTS_MOST: usize = 5;
-
-pub(crate) fn line() -> [u8; LINE_MOST]
-    ensures { λ r. ⌜ 400000 ≡ length r ⌝ }
+// For a line, and one byte more, which shows that it is too long; and for all the bytes that a call is given, which are at most five times BYTES_MOST.
+pub(crate) fn bytes() -> [u8; LINE_MOST + 1]
+    ensures { λ r. ⌜ 400001 ≡ length r ⌝ }
 {
-    [0; LINE_MOST]
-}
-
-// For all the bytes that a call is given.
-pub(crate) fn memory() -> [u8; TEXTS_MOST * BYTES_MOST]
-    ensures { λ r. ⌜ 328160 ≡ length r ⌝ }
-{
-    [0; TEXTS_MOST * BYTES_MOST]
+    [0; LINE_MOST + 1]
 }
 
 // For an output in hexadecimal.

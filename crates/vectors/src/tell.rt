@@ -2,23 +2,16 @@
 ghost use Prim.Native.Nat.{_*_, _≤_};
 ghost use lib.ListN.{length};
 use crate::names::name;
-use crate::names::row;
+use crate::names::row_of;
+use crate::parts::part;
 use crate::room;
 use crate::room::BYTES_MOST;
 use libc::STDOUT_FILENO;
-
-pub(crate) fn text(text: &[u8]) -> bool {
-    io::write_all(STDOUT_FILENO, text)
-}
+use places::Place;
 
 pub(crate) fn byte(b: u8) -> bool {
     let one = [b];
-    text(&one)
-}
-
-// A line that is no call.
-pub(crate) fn no_call() -> bool {
-    byte(b'?') & byte(b'\n')
+    io::write_all(STDOUT_FILENO, &one)
 }
 
 // The line of a call that gives the number of its answer alone.
@@ -45,7 +38,7 @@ fn bytes(bytes: &[u8]) -> bool {
     }
     let mut digits = room::digits();
     spell(bytes, &mut digits);
-    text(&digits[0..2 * n])
+    io::write_all(STDOUT_FILENO, part(&digits, 0, 2 * n))
 }
 
 fn spell(bytes: &[u8], out: &mut [u8])
@@ -66,19 +59,19 @@ fn digit(x: u8) -> u8 {
 }
 
 // A number behind a space.
-fn next_number(n: u64) -> bool {
-    byte(b' ') & io::print_decimal(STDOUT_FILENO, n)
+fn next_number(n: usize) -> bool {
+    byte(b' ') & io::print_decimal(STDOUT_FILENO, n as u64)
 }
 
-// A word of so many hexadecimal digits behind a space.
-pub(crate) fn next_word(word: u64, digits: usize) -> bool {
-    byte(b' ') & io::print_hex(STDOUT_FILENO, word, digits)
-}
-
-// The numbers of a session, the last of them by its name, each behind a space.
-pub(crate) fn numbers(n: [u64; 6]) -> bool {
-    let counts = next_number(n[0]) & next_number(n[1]) & next_number(n[2]);
-    let terms = next_number(n[3]) & next_number(n[4]);
-    let standing = row(n[5] as usize);
-    counts & terms & byte(b' ') & text(name(&standing))
+// Where a session stands, each number behind a space, and last the name of its standing.
+pub(crate) fn place(p: Place) -> bool {
+    let standing = p.standing;
+    let row = row_of(standing);
+    next_number(p.note)
+        & next_number(p.body)
+        & next_number(p.trailer)
+        & next_number(p.terms.rounds as usize)
+        & next_number(p.terms.edition.revision as usize)
+        & byte(b' ')
+        & io::write_all(STDOUT_FILENO, name(&row))
 }

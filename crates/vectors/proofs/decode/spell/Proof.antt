@@ -8,10 +8,10 @@ use Rattle.vectors.proofs.decode.spell.Statement.{statement}
 use Rattle.vectors.proofs.decode.spell.Tie as tie
 
 abbrev Inv-loop : tie.InvT-loop
-Inv-loop word out₀ repeats right₀ i₀ out right i = (i ≤ length out₀) × (length out ≡ length out₀)
+Inv-loop word out₀ repeats i₀ out i = (i ≤ length out₀) × (length out ≡ length out₀)
 
 abbrev μ-loop : tie.MeasureT-loop
-μ-loop word out₀ repeats right₀ i₀ out right i = length out₀ - i
+μ-loop word out₀ repeats i₀ out i = length out₀ - i
 
 pub spell-spec : {M : Type 1} → statement M
 spell-spec =
@@ -22,6 +22,8 @@ spell-spec =
     (λ c κs. search needs)
     (λ c. search needs)
     (λ c κs. search needs)
+    (λ c. search needs)
+    (λ c. search needs)
     (λ c. search needs)
     (λ c. search needs)
     (λ c. search needs)

@@ -1,0 +1,36 @@
+-- Any two results that the contract of a public function allows are equal, with what every lent buffer then holds. Stated over the contracts' own readings.
+-- Assumes nothing.
+use mathlib.Core.Path.{_≡_, sym, _∙_}
+use denote.Ref.{now}
+use denote.Triple.Clauses.{AtExit}
+use contract.Lifetimes.{Lfts}
+use borrow.Fn.World.{ArgsD, ResD}
+use borrow.Fn.Kinds.{endedOf}
+use Rattle.held.proofs.Held.closed.{signature as signature-closed}
+use Rattle.held.proofs.Held.closed.Kinds as kinds-closed
+use Rattle.held.proofs.Held.closed.Reads.{Post as Post-closed}
+use Rattle.held.proofs.Held.start.{signature as signature-start}
+use Rattle.held.proofs.Held.start.Kinds as kinds-start
+use Rattle.held.proofs.Held.start.Reads.{Post as Post-start}
+use Rattle.held.proofs.Held.piece.{signature as signature-piece}
+use Rattle.held.proofs.Held.piece.Kinds as kinds-piece
+use Rattle.held.proofs.Held.piece.Reads.{Post as Post-piece}
+use Rattle.held.proofs.Held.close.{signature as signature-close}
+use Rattle.held.proofs.Held.close.Kinds as kinds-close
+use Rattle.held.proofs.Held.close.Reads.{Post as Post-close}
+
+pub one-closed : (κs : Lfts 0) (a : ArgsD signature-closed κs) (r r′ : ResD signature-closed κs) (s s′ : AtExit (endedOf 0 kinds-closed.ps kinds-closed.r) κs)
+    → Post-closed κs a r s → Post-closed κs a r′ s′ → r ≡ r′
+one-closed κs a r r′ s s′ p q = p ∙ sym q
+
+pub one-start : (κs : Lfts 2) (a : ArgsD signature-start κs) (r r′ : ResD signature-start κs) (s s′ : AtExit (endedOf 2 kinds-start.ps kinds-start.r) κs)
+    → Post-start κs a r s → Post-start κs a r′ s′ → r ≡ r′
+one-start κs a r r′ s s′ p q = p ∙ sym q
+
+pub one-piece : (κs : Lfts 2) (a : ArgsD signature-piece κs) (r r′ : ResD signature-piece κs) (s s′ : AtExit (endedOf 2 kinds-piece.ps kinds-piece.r) κs)
+    → Post-piece κs a r s → Post-piece κs a r′ s′ → (r ≡ r′) × (now (s .1 .1 .1 .0) ≡ now (s′ .1 .1 .1 .0))
+one-piece κs a r r′ s s′ p q = (p .0 ∙ sym (q .0), p .1 ∙ sym (q .1))
+
+pub one-close : (κs : Lfts 2) (a : ArgsD signature-close κs) (r r′ : ResD signature-close κs) (s s′ : AtExit (endedOf 2 kinds-close.ps kinds-close.r) κs)
+    → Post-close κs a r s → Post-close κs a r′ s′ → (r ≡ r′) × (now (s .1 .1 .1 .0) ≡ now (s′ .1 .1 .1 .0))
+one-close κs a r r′ s s′ p q = (p .0 ∙ sym (q .0), p .1 ∙ sym (q .1))

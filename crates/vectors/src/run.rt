@@ -1,0 +1,25 @@
+// The run so far.
+use held::Held;
+use libc::STDERR_FILENO;
+
+// The session that is held, whether the line that is answered is a quiet one, how many bytes of the line that is being read are gathered, and whether the run goes on: the input has not ended, and all lines so far were written.
+pub(crate) struct Run {
+    pub held: Held,
+    pub is_quiet: bool,
+    pub gathered: usize,
+    pub goes_on: bool,
+}
+
+impl Run {
+    // The same, where a line was written or not, which is said.
+    pub(crate) fn told(mut self, written: bool) -> Run {
+        if !written {
+            io::write_all(
+                STDERR_FILENO,
+                b"vectors: standard output cannot be written\n",
+            );
+        }
+        self.goes_on = written;
+        self
+    }
+}

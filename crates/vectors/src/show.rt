@@ -1,0 +1,55 @@
+// The calls that look at numbers or put them: the constants, and the session that is held. Each writes its line.
+use crate::arguments::Arguments;
+use crate::call::no_call;
+use crate::run::Run;
+use crate::tell;
+use crate::w32;
+use crate::w64;
+use held::Held;
+
+// W.
+pub(crate) fn constants(a: Arguments, run: Run) -> Run {
+    let width = a.words.first;
+    if (width != 32) & (width != 64) {
+        return no_call(run);
+    }
+    if run.is_quiet {
+        return run.told(tell::answer(0));
+    }
+    run.told(tell::byte(b'0') & tell_constants(width) & tell::byte(b'\n'))
+}
+
+fn tell_constants(width: usize) -> bool {
+    if width == 32 {
+        w32::tell_constants()
+    } else {
+        w64::tell_constants()
+    }
+}
+
+// 0, the words and the numbers.
+pub(crate) fn session(run: Run) -> Run {
+    if run.is_quiet {
+        return run.told(tell::answer(0));
+    }
+    let held = run.held;
+    let place = held.place;
+    run.told(tell::byte(b'0') & tell_words(held) & tell::place(place) & tell::byte(b'\n'))
+}
+
+fn tell_words(held: Held) -> bool {
+    if held.wide {
+        w64::tell(held)
+    } else {
+        w32::tell(held)
+    }
+}
+
+// NOTE BODY TRAILER L REVISION STANDING.
+pub(crate) fn put(a: Arguments, mut run: Run) -> Run {
+    let words = a.words;
+    let held = run.held;
+    let next = calls::put(words, held);
+    run.held = next;
+    run.told(tell::answer(0))
+}
