@@ -9,16 +9,16 @@ cd "$(dirname "$0")/.."
 . tests/tools.sh
 
 mkdir -p target/tests
-# The flags are lists of words.
+# The model links nothing of the library, so it is compiled for the host's own processor. The flags are a list of words.
 # shellcheck disable=SC2086
-$CC $CFLAGS -Itests/reference -Itests/differential -o target/tests/sessions \
-    tests/sessions.c tests/sessions/*.c tests/reference/norx.c $LDFLAGS
+cc $CFLAGS -Itests/reference -Itests/differential -o target/tests/sessions \
+    tests/sessions.c tests/sessions/*.c tests/reference/norx.c
 if [ "${1-}" = --say ]; then
-    exec $RUN target/tests/sessions --say
+    exec target/tests/sessions --say
 fi
 if [ ! -x target/bin/vectors ]; then
     echo "$0: there is no program target/bin/vectors; make builds it" >&2
     exit 1
 fi
 . tests/proved.sh
-$RUN target/tests/sessions target/bin/vectors --runner "$run" "$@"
+target/tests/sessions target/bin/vectors --runner "$run" "$@"

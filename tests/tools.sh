@@ -1,6 +1,6 @@
 #!/bin/sh
 # Sourced or run: installs the C compiler and pkg-config where they are missing, and sets CC, CFLAGS, LDFLAGS, NM and RUN.
-# The archive is for x86-64, so an Arm host compiles for x86-64 and runs the programs under qemu.
+# The archive is for x86-64, so an Arm host compiles what links it for x86-64 and runs these programs under qemu; cc is the host's own.
 
 set -eu
 
@@ -47,8 +47,6 @@ CFLAGS="-std=c11 -O3 -Wall -Wextra"
 
 case $(uname -m) in
 x86_64)
-    has_c || install_packages gcc libc6-dev
-    is_there pkg-config || install_packages pkg-config
     CC=cc
     NM='nm'
     LDFLAGS=
@@ -56,7 +54,6 @@ x86_64)
     ;;
 aarch64)
     has_cross_tools || install_packages gcc-x86-64-linux-gnu libc6-dev-amd64-cross qemu-user
-    is_there pkg-config || install_packages pkg-config
     CC=x86_64-linux-gnu-gcc
     NM=x86_64-linux-gnu-nm
     LDFLAGS=-static
@@ -67,3 +64,6 @@ aarch64)
     exit 1
     ;;
 esac
+
+has_c || install_packages gcc libc6-dev
+is_there pkg-config || install_packages pkg-config

@@ -1,3 +1,4 @@
+pub mod Constants
 pub mod Number
 pub mod Same
 pub mod Unique

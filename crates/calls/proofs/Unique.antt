@@ -12,6 +12,12 @@ use Rattle.calls.proofs.make.Reads.{Post as Post-make}
 use Rattle.calls.proofs.put.{signature as signature-put}
 use Rattle.calls.proofs.put.Kinds as kinds-put
 use Rattle.calls.proofs.put.Reads.{Post as Post-put}
+use Rattle.calls.proofs.constant.{signature as signature-constant}
+use Rattle.calls.proofs.constant.Kinds as kinds-constant
+use Rattle.calls.proofs.constant.Reads.{Post as Post-constant}
+use Rattle.calls.proofs.is_call.{signature as signature-is-call}
+use Rattle.calls.proofs.is_call.Kinds as kinds-is-call
+use Rattle.calls.proofs.is_call.Reads.{Post as Post-is-call}
 
 pub one-make : (κs : Lfts 2) (a : ArgsD signature-make κs) (r r′ : ResD signature-make κs) (s s′ : AtExit (endedOf 2 kinds-make.ps kinds-make.r) κs)
     → Post-make κs a r s → Post-make κs a r′ s′ → (r ≡ r′) × (now (s .1 .1 .1 .1 .0) ≡ now (s′ .1 .1 .1 .1 .0))
@@ -20,3 +26,11 @@ one-make κs a r r′ s s′ p q = (p .0 ∙ sym (q .0), p .1 ∙ sym (q .1))
 pub one-put : (κs : Lfts 0) (a : ArgsD signature-put κs) (r r′ : ResD signature-put κs) (s s′ : AtExit (endedOf 0 kinds-put.ps kinds-put.r) κs)
     → Post-put κs a r s → Post-put κs a r′ s′ → r ≡ r′
 one-put κs a r r′ s s′ p q = p ∙ sym q
+
+pub one-constant : (κs : Lfts 0) (a : ArgsD signature-constant κs) (r r′ : ResD signature-constant κs) (s s′ : AtExit (endedOf 0 kinds-constant.ps kinds-constant.r) κs)
+    → Post-constant κs a r s → Post-constant κs a r′ s′ → r ≡ r′
+one-constant κs a r r′ s s′ p q = p ∙ sym q
+
+pub one-is-call : (κs : Lfts 0) (a : ArgsD signature-is-call κs) (r r′ : ResD signature-is-call κs) (s s′ : AtExit (endedOf 0 kinds-is-call.ps kinds-is-call.r) κs)
+    → Post-is-call κs a r s → Post-is-call κs a r′ s′ → r ≡ r′
+one-is-call κs a r r′ s s′ p q = p ∙ sym q

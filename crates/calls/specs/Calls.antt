@@ -1,10 +1,11 @@
 -- What each call gives whose arguments are plain numbers and stretches of one memory, on all inputs: what the library's own call gives.
 -- Assumes nothing.
-use Prim.Native.Nat.{ℕ, _-_, _%_}
-use mathlib.Core.Bool.{Bool, true, false, cond}
+use Prim.Native.Nat.{ℕ, _-_, _/_, _%_}
+use mathlib.Core.Bool.{Bool, true, false, not, _&&_, _||_, cond}
 use mathlib.Core.List.{List, []}
-use lib.Dec.{eqb, leb}
+use lib.Dec.{eqb, ltb, leb}
 use lib.ListN.{length, take, drop}
+use Rattle.norx.specs.Norx.{Width, word32, word64, rowAt, wordAt, constants}
 use Rattle.answers.specs.declared.Answer.{Answer}
 use Rattle.places.specs.declared.terms.Edition.{Edition}
 use Rattle.places.specs.declared.terms.Terms.{Terms}
@@ -115,3 +116,22 @@ madeCall k a m h out = byNumber k (sealCall a m h out) (openCall a m h out) (sta
 -- a start has no output
 unfoldable pub madeOut : ℕ → Words → List ℕ → Held → List ℕ → List ℕ
 madeOut k a m h out = byNumber k (sealCallOut a m out) (openCallOut a m out) out out (pieceCallOut a m h out) (closeCallTag a m h out)
+
+-- ---- What else a program asks
+
+-- whether the call of a number can be made on what is held: a start is at one of the two widths, a checking session takes no output,
+-- and each kind is closed by a number of its own, 6 a sealing and 7 a checking session
+unfoldable pub isCall : ℕ → Words → Held → Bool
+isCall k a h =
+    (eqb k 1 || eqb k 2)
+    || ((eqb k 3 || eqb k 4) && (eqb (a .first) 32 || eqb (a .first) 64))
+    || (eqb k 5 && (not (h .check) || eqb (a .fifth) 0))
+    || (eqb k 6 && not (h .check))
+    || (eqb k 7 && h .check)
+
+-- the i'th of the constants u0 to u15 at a width; 0 from 16 on
+unfoldable pub constantAt : Width → ℕ → ℕ
+constantAt w i = cond (ltb i 16) (wordAt (rowAt (constants w) (i / 4)) (i % 4)) 0
+
+unfoldable pub constantOf : Bool → ℕ → ℕ
+constantOf wide i = cond wide (constantAt word64 i) (constantAt word32 i)

@@ -1,7 +1,7 @@
 // The library's calls, their arguments in plain numbers: for programs that are given a call as data. A text is a stretch of one memory.
 ghost use mathlib.Core.Path.{_≡_};
 ghost use Rattle.norx.specs.Lent.{was};
-ghost use Rattle.calls.specs.Calls.{low as lowOf, stretchOf, partOf, editionOf, termsOf, labelOf, sealCall, sealCallOut, openCall, openCallOut, startCall, pieceCall, pieceCallOut, closeCall, closeCallTag, standingOf, putCall, madeCall, madeOut};
+ghost use Rattle.calls.specs.Calls.{low as lowOf, stretchOf, partOf, editionOf, termsOf, labelOf, sealCall, sealCallOut, openCall, openCallOut, startCall, pieceCall, pieceCallOut, closeCall, closeCallTag, standingOf, putCall, madeCall, madeOut, isCall, constantOf};
 use held::Held;
 use held::HeldStep;
 use places::Label;
@@ -10,6 +10,9 @@ use places::Place;
 use places::Standing;
 use places::terms::Edition;
 use places::terms::Terms;
+
+mod w32;
+mod w64;
 
 // The words of a call, in their order: a number, or of a text the place in the memory where it ends; it begins where the one before it ended, the first at 0.
 pub struct Words {
@@ -44,6 +47,18 @@ pub fn make(k: usize, a: Words, memory: &[u8], held: Held, out: &mut [u8]) -> He
         return piece(a, memory, held, out);
     }
     close(a, memory, held, out)
+}
+
+// Whether the call of a number can be made on what is held: a start is at one of the two widths, a checking session takes no output, and each kind is closed by a number of its own, 6 a sealing and 7 a checking session.
+pub fn is_call(k: usize, a: Words, held: Held) -> bool
+    ensures { λ r. ⌜ r ≡ isCall k a held ⌝ }
+{
+    let seals_or_opens = (k == 1) | (k == 2);
+    let starts = ((k == 3) | (k == 4)) & ((a.first == 32) | (a.first == 64));
+    let offers = (k == 5) & (!held.check | (a.fifth == 0));
+    let closes = (k == 6) & !held.check;
+    let checks = (k == 7) & held.check;
+    seals_or_opens | starts | offers | closes | checks
 }
 
 // Width, rounds, key, nonce, header, body, trailer.
@@ -130,6 +145,17 @@ pub fn put(a: Words, mut held: Held) -> Held
     };
     held.place = place;
     held
+}
+
+// The i'th of the constants u0 to u15 at a width; 0 from 16 on.
+pub fn constant(wide: bool, i: usize) -> u64
+    ensures { λ r. ⌜ r ≡ constantOf wide i ⌝ }
+{
+    if wide {
+        w64::constant(i)
+    } else {
+        w32::constant(i) as u64
+    }
 }
 
 // The bytes from a place up to another; none where these are no places of the memory in that order.

@@ -1,78 +1,50 @@
--- What a call on what is held comes to, by the kind that it is: from what the session's own call gave, over the width.
+-- What a call on what is held comes to, from what the session's own call gave: once for both kinds and both widths.
 -- Assumes nothing.
-use Prim.Native.Nat.{ℕ}
+use Prim.Native.Nat.{ℕ, _-_, _≤_, _<_}
 use mathlib.Core.Path.{_≡_, sym, ap, _∙_}
-use mathlib.Core.Bool.{true, false}
-use mathlib.Core.List.{List, []}
+use mathlib.Core.List.{List}
+use lib.ListN.{getD}
+use borrow.Author.Tests.{lt-ltb, le-ltb}
 use Rattle.answers.proofs.Tests.{cond-true, cond-false}
 use Rattle.places.specs.declared.terms.Edition.{Edition}
 use Rattle.places.specs.declared.terms.Terms.{Terms}
 use Rattle.places.specs.declared.Label.{Label}
-use Rattle.session.specs.Sessions.{startOf, pieceOf, pieceOut, closeOf, closeTag}
+use Rattle.session.specs.Sessions.{Kind, startOf, pieceOf, pieceOut, closeOf, closeTag}
 use Rattle.held.specs.declared.Held.{Held}
 use Rattle.held.specs.declared.HeldStep.{HeldStep}
-use Rattle.held.specs.Held.{Side, sessionOf, stepOf, startAt, pieceAt, pieceOutAt, closeAt, closeTagAt}
+use Rattle.held.specs.Held.{Side, sessionOf, stepOf, wordAt}
 
-module _ (S : Side) (h : Held) (r : HeldStep) where
-  -- ---- a checking session is held
+module _ (S : Side) (K : Kind) (h : Held) where
+  pub step-of-start : (key nonce : List ℕ) (T : Terms) {t : K .Step} {r : HeldStep} → t ≡ startOf K key nonce T → r ≡ stepOf S K h t
+      → r ≡ stepOf S K h (startOf K key nonce T)
+  step-of-start key nonce T called held = held ∙ ap (stepOf S K h) called
 
-  pub start-checks : (key nonce : List ℕ) (T : Terms) (t : S .checking .Step) → h .check ≡ true
-      → t ≡ startOf (S .checking) key nonce T → r ≡ stepOf S (S .checking) h t → r ≡ startAt S h key nonce T
-  unfolding startAt
-  start-checks key nonce T t e called held = held ∙ ap (stepOf S (S .checking) h) called ∙ sym (cond-true (h .check) _ _ e)
+  module _ {s : K .Session} (made : s ≡ sessionOf S K h) where
+    pub step-of-piece : (label : Label) (x out : List ℕ) {t : K .Step} {r : HeldStep} → t ≡ pieceOf K s label x out → r ≡ stepOf S K h t
+        → r ≡ stepOf S K h (pieceOf K (sessionOf S K h) label x out)
+    step-of-piece label x out called held = held ∙ ap (stepOf S K h) (called ∙ ap (λ (u : K .Session). pieceOf K u label x out) made)
 
-  pub piece-checks : (label : Label) (x out : List ℕ) (s : S .checking .Session) (t : S .checking .Step) → h .check ≡ true
-      → s ≡ sessionOf S (S .checking) h → t ≡ pieceOf (S .checking) s label x [] → r ≡ stepOf S (S .checking) h t → r ≡ pieceAt S h label x out
-  unfolding pieceAt
-  piece-checks label x out s t e made called held =
-      held ∙ ap (stepOf S (S .checking) h) (called ∙ ap (λ (u : S .checking .Session). pieceOf (S .checking) u label x []) made)
-      ∙ sym (cond-true (h .check) _ _ e)
+    pub out-of-piece : (label : Label) (x out : List ℕ) {o : List ℕ} → o ≡ pieceOut K s label x out → o ≡ pieceOut K (sessionOf S K h) label x out
+    out-of-piece label x out wrote = wrote ∙ ap (λ (u : K .Session). pieceOut K u label x out) made
 
-  pub close-checks : (edition : Edition) (given tag : List ℕ) (s : S .checking .Session) (t : S .checking .Step) → h .check ≡ true
-      → s ≡ sessionOf S (S .checking) h → t ≡ closeOf (S .checking) s edition given → r ≡ stepOf S (S .checking) h t → r ≡ closeAt S h edition given tag
-  unfolding closeAt
-  close-checks edition given tag s t e made called held =
-      held ∙ ap (stepOf S (S .checking) h) (called ∙ ap (λ (u : S .checking .Session). closeOf (S .checking) u edition given) made)
-      ∙ sym (cond-true (h .check) _ _ e)
+    pub step-of-close : (edition : Edition) (tag : List ℕ) {t : K .Step} {r : HeldStep} → t ≡ closeOf K s edition tag → r ≡ stepOf S K h t
+        → r ≡ stepOf S K h (closeOf K (sessionOf S K h) edition tag)
+    step-of-close edition tag called held = held ∙ ap (stepOf S K h) (called ∙ ap (λ (u : K .Session). closeOf K u edition tag) made)
 
-  -- ---- a sealing session is held
+    pub tag-of-close : (edition : Edition) (tag : List ℕ) {o : List ℕ} → o ≡ closeTag K s edition tag → o ≡ closeTag K (sessionOf S K h) edition tag
+    tag-of-close edition tag wrote = wrote ∙ ap (λ (u : K .Session). closeTag K u edition tag) made
 
-  pub start-seals : (key nonce : List ℕ) (T : Terms) (t : S .sealing .Step) → h .check ≡ false
-      → t ≡ startOf (S .sealing) key nonce T → r ≡ stepOf S (S .sealing) h t → r ≡ startAt S h key nonce T
-  unfolding startAt
-  start-seals key nonce T t e called held = held ∙ ap (stepOf S (S .sealing) h) called ∙ sym (cond-false (h .check) _ _ e)
+-- ---- the i'th word
 
-  pub piece-seals : (label : Label) (x out : List ℕ) (s : S .sealing .Session) (t : S .sealing .Step) → h .check ≡ false
-      → s ≡ sessionOf S (S .sealing) h → t ≡ pieceOf (S .sealing) s label x out → r ≡ stepOf S (S .sealing) h t → r ≡ pieceAt S h label x out
-  unfolding pieceAt
-  piece-seals label x out s t e made called held =
-      held ∙ ap (stepOf S (S .sealing) h) (called ∙ ap (λ (u : S .sealing .Session). pieceOf (S .sealing) u label x out) made)
-      ∙ sym (cond-false (h .check) _ _ e)
+module _ (S : Side) (h : Held) (i r : ℕ) where
+  pub word-of-state : i < 16 → r ≡ getD (S .words h) i 0 → r ≡ wordAt S h i
+  unfolding wordAt
+  word-of-state low read = read ∙ sym (cond-true _ _ _ (lt-ltb i 16 low))
 
-  pub close-seals : (edition : Edition) (given tag : List ℕ) (s : S .sealing .Session) (t : S .sealing .Step) → h .check ≡ false
-      → s ≡ sessionOf S (S .sealing) h → t ≡ closeOf (S .sealing) s edition tag → r ≡ stepOf S (S .sealing) h t → r ≡ closeAt S h edition given tag
-  unfolding closeAt
-  close-seals edition given tag s t e made called held =
-      held ∙ ap (stepOf S (S .sealing) h) (called ∙ ap (λ (u : S .sealing .Session). closeOf (S .sealing) u edition tag) made)
-      ∙ sym (cond-false (h .check) _ _ e)
+  pub word-of-key : 16 ≤ i → i < 20 → r ≡ getD (S .key h) (i - 16) 0 → r ≡ wordAt S h i
+  unfolding wordAt
+  word-of-key high low read = read ∙ sym (cond-false _ _ _ (le-ltb i 16 high) ∙ cond-true _ _ _ (lt-ltb i 20 low))
 
--- ---- what a lent buffer then holds
-
-module _ (S : Side) (h : Held) (o : List ℕ) where
-  pub piece-leaves : (label : Label) (x out : List ℕ) → h .check ≡ true → o ≡ out → o ≡ pieceOutAt S h label x out
-  unfolding pieceOutAt
-  piece-leaves label x out e left = left ∙ sym (cond-true (h .check) _ _ e)
-
-  pub piece-writes : (label : Label) (x out : List ℕ) (s : S .sealing .Session) → h .check ≡ false
-      → s ≡ sessionOf S (S .sealing) h → o ≡ pieceOut (S .sealing) s label x out → o ≡ pieceOutAt S h label x out
-  unfolding pieceOutAt
-  piece-writes label x out s e made wrote = wrote ∙ ap (λ (u : S .sealing .Session). pieceOut (S .sealing) u label x out) made ∙ sym (cond-false (h .check) _ _ e)
-
-  pub close-leaves : (edition : Edition) (tag : List ℕ) → h .check ≡ true → o ≡ tag → o ≡ closeTagAt S h edition tag
-  unfolding closeTagAt
-  close-leaves edition tag e left = left ∙ sym (cond-true (h .check) _ _ e)
-
-  pub close-writes : (edition : Edition) (tag : List ℕ) (s : S .sealing .Session) → h .check ≡ false
-      → s ≡ sessionOf S (S .sealing) h → o ≡ closeTag (S .sealing) s edition tag → o ≡ closeTagAt S h edition tag
-  unfolding closeTagAt
-  close-writes edition tag s e made wrote = wrote ∙ ap (λ (u : S .sealing .Session). closeTag (S .sealing) u edition tag) made ∙ sym (cond-false (h .check) _ _ e)
+  pub no-word : 16 ≤ i → 20 ≤ i → r ≡ 0 → r ≡ wordAt S h i
+  unfolding wordAt
+  no-word high higher none = none ∙ sym (cond-false _ _ _ (le-ltb i 16 high) ∙ cond-false _ _ _ (le-ltb i 20 higher))

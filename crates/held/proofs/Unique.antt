@@ -18,6 +18,9 @@ use Rattle.held.proofs.Held.piece.Reads.{Post as Post-piece}
 use Rattle.held.proofs.Held.close.{signature as signature-close}
 use Rattle.held.proofs.Held.close.Kinds as kinds-close
 use Rattle.held.proofs.Held.close.Reads.{Post as Post-close}
+use Rattle.held.proofs.Held.word.{signature as signature-word}
+use Rattle.held.proofs.Held.word.Kinds as kinds-word
+use Rattle.held.proofs.Held.word.Reads.{Post as Post-word}
 
 pub one-closed : (κs : Lfts 0) (a : ArgsD signature-closed κs) (r r′ : ResD signature-closed κs) (s s′ : AtExit (endedOf 0 kinds-closed.ps kinds-closed.r) κs)
     → Post-closed κs a r s → Post-closed κs a r′ s′ → r ≡ r′
@@ -34,3 +37,7 @@ one-piece κs a r r′ s s′ p q = (p .0 ∙ sym (q .0), p .1 ∙ sym (q .1))
 pub one-close : (κs : Lfts 2) (a : ArgsD signature-close κs) (r r′ : ResD signature-close κs) (s s′ : AtExit (endedOf 2 kinds-close.ps kinds-close.r) κs)
     → Post-close κs a r s → Post-close κs a r′ s′ → (r ≡ r′) × (now (s .1 .1 .1 .0) ≡ now (s′ .1 .1 .1 .0))
 one-close κs a r r′ s s′ p q = (p .0 ∙ sym (q .0), p .1 ∙ sym (q .1))
+
+pub one-word : (κs : Lfts 0) (a : ArgsD signature-word κs) (r r′ : ResD signature-word κs) (s s′ : AtExit (endedOf 0 kinds-word.ps kinds-word.r) κs)
+    → Post-word κs a r s → Post-word κs a r′ s′ → r ≡ r′
+one-word κs a r r′ s s′ p q = p ∙ sym q

@@ -1,9 +1,10 @@
 -- A session of either kind and width in plain numbers, and what each call on it gives, on all inputs: what that session's own call gives.
 -- Assumes nothing.
-use Prim.Native.Nat.{ℕ}
+use Prim.Native.Nat.{ℕ, _-_}
 use mathlib.Core.Bool.{Bool, cond}
 use mathlib.Core.List.{List, []}
-use lib.ListN.{replicate}
+use lib.Dec.{ltb}
+use lib.ListN.{getD, replicate}
 use Rattle.places.specs.declared.terms.Edition.{Edition}
 use Rattle.places.specs.declared.terms.Terms.{Terms}
 use Rattle.places.specs.declared.Label.{Label}
@@ -78,6 +79,10 @@ module _ (S : Side) where
   unfoldable pub closeTagAt : Held → Edition → List ℕ → List ℕ
   closeTagAt h edition tag = cond (h .check) tag (closeTag (S .sealing) (sessionOf (S .sealing) h) edition tag)
 
+  -- the words and behind them those of the key, counted from 0; 0 where none is left
+  unfoldable pub wordAt : Held → ℕ → ℕ
+  wordAt h i = cond (ltb i 16) (getD (S .words h) i 0) (cond (ltb i 20) (getD (S .key h) (i - 16) 0) 0)
+
 -- ---- The calls, at the width that is held
 
 -- no words and no key, at a place
@@ -105,3 +110,6 @@ heldClose h edition given tag = cond (h .wide) (closeAt side64 h edition given t
 
 unfoldable pub heldTag : Held → Edition → List ℕ → List ℕ
 heldTag h edition tag = cond (h .wide) (closeTagAt side64 h edition tag) (closeTagAt side32 h edition tag)
+
+unfoldable pub heldWord : Held → ℕ → ℕ
+heldWord h i = cond (h .wide) (wordAt side64 h i) (wordAt side32 h i)

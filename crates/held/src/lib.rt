@@ -1,7 +1,7 @@
 // A session of either kind and width, in plain numbers: for programs that are told by data which it is.
 ghost use mathlib.Core.Path.{_≡_};
 ghost use Rattle.norx.specs.Lent.{was};
-ghost use Rattle.held.specs.Held.{closedHeld, heldStart, heldPiece, heldPieceOut, heldClose, heldTag};
+ghost use Rattle.held.specs.Held.{closedHeld, heldStart, heldPiece, heldPieceOut, heldClose, heldTag, heldWord};
 use answers::Answer;
 use places::Label;
 use places::Place;
@@ -78,6 +78,17 @@ impl Held {
             w64::close(self, edition, given, tag)
         } else {
             w32::close(self, edition, given, tag)
+        }
+    }
+
+    // The i'th of its 16 words and the 4 of its key behind them, at its width; 0 where there is none.
+    pub fn word(self, i: usize) -> u64
+        ensures { λ r. ⌜ r ≡ heldWord self i ⌝ }
+    {
+        if self.wide {
+            w64::word(self, i)
+        } else {
+            w32::word(self, i) as u64
         }
     }
 }

@@ -2,13 +2,14 @@
 ghost use mathlib.Core.Path.{_≡_};
 ghost use Rattle.norx.specs.Lent.{was};
 ghost use Rattle.session64.specs.Kinds.{sealing64, checking64};
-ghost use Rattle.held.specs.Held.{side64, sessionOf, stepOf, startAt, pieceAt, pieceOutAt, closeAt, closeTagAt};
+ghost use Rattle.held.specs.Held.{side64, sessionOf, stepOf, startAt, pieceAt, pieceOutAt, closeAt, closeTagAt, wordAt};
 use crate::Held;
 use crate::HeldStep;
 use places::Label;
 use places::Place;
 use places::terms::Edition;
 use places::terms::Terms;
+use rules::w64::Word;
 use session64::check::Checking;
 use session64::check::CheckingStep;
 use session64::seal::Sealing;
@@ -44,6 +45,20 @@ pub(crate) fn close(h: Held, edition: Edition, given: &[u8], tag: &mut [u8]) -> 
     } else {
         after_seal(h, sealing(h).close(edition, tag))
     }
+}
+
+pub(crate) fn word(h: Held, i: usize) -> Word
+    ensures { λ r. ⌜ r ≡ wordAt side64 h i ⌝ }
+{
+    let words = h.words64;
+    let key = h.key64;
+    if i < 16 {
+        return words[i];
+    }
+    if i < 20 {
+        return key[i - 16];
+    }
+    0
 }
 
 fn sealing(h: Held) -> Sealing

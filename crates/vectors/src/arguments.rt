@@ -94,8 +94,8 @@ fn with(mut a: Arguments, kind: u8, word: &[u8], memory: &mut [u8]) -> Arguments
     match kind {
         b'B' => {
             let laid = lay(word, memory, a.used);
-            a.used = laid.to;
-            a.then(laid.right, laid.to)
+            a.used = laid.value;
+            a.then(laid.right, laid.value)
         }
         b'P' => {
             let k = find(word, PARTS, END);

@@ -11,8 +11,6 @@ mod room;
 mod run;
 mod show;
 mod tell;
-mod w32;
-mod w64;
 
 use held::Held;
 use run::Run;

@@ -3,8 +3,6 @@ use crate::arguments::Arguments;
 use crate::call::no_call;
 use crate::run::Run;
 use crate::tell;
-use crate::w32;
-use crate::w64;
 use held::Held;
 
 // W.
@@ -16,15 +14,17 @@ pub(crate) fn constants(a: Arguments, run: Run) -> Run {
     if run.is_quiet {
         return run.told(tell::answer(0));
     }
-    run.told(tell::byte(b'0') & tell_constants(width) & tell::byte(b'\n'))
+    run.told(tell::byte(b'0') & tell_constants(width == 64) & tell::byte(b'\n'))
 }
 
-fn tell_constants(width: usize) -> bool {
-    if width == 32 {
-        w32::tell_constants()
-    } else {
-        w64::tell_constants()
+fn tell_constants(wide: bool) -> bool {
+    let mut written = true;
+    let mut i = 0;
+    while i < 16 {
+        written = written & tell::word(calls::constant(wide, i), wide);
+        i += 1;
     }
+    written
 }
 
 // 0, the words and the numbers.
@@ -37,12 +37,15 @@ pub(crate) fn session(run: Run) -> Run {
     run.told(tell::byte(b'0') & tell_words(held) & tell::place(place) & tell::byte(b'\n'))
 }
 
+// The words of the session that is held, and those of its key.
 fn tell_words(held: Held) -> bool {
-    if held.wide {
-        w64::tell(held)
-    } else {
-        w32::tell(held)
+    let mut written = true;
+    let mut i = 0;
+    while i < 20 {
+        written = written & tell::word(held.word(i), held.wide);
+        i += 1;
     }
+    written
 }
 
 // NOTE BODY TRAILER L REVISION STANDING.

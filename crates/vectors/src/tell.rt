@@ -1,11 +1,8 @@
 // What is written. Each function gives whether all of it was.
-ghost use Prim.Native.Nat.{_*_, _≤_};
-ghost use lib.ListN.{length};
 use crate::names::name;
 use crate::names::row_of;
 use crate::parts::part;
 use crate::room;
-use crate::room::BYTES_MOST;
 use libc::STDOUT_FILENO;
 use places::Place;
 
@@ -29,38 +26,19 @@ pub(crate) fn output(number: u32, out: &[u8], is_quiet: bool) -> bool {
 
 // Bytes in hexadecimal, as many as an output may have; `-` for none.
 fn bytes(bytes: &[u8]) -> bool {
-    let n = bytes.len();
-    if n == 0 {
-        return byte(b'-');
-    }
-    if BYTES_MOST < n {
-        return false;
-    }
     let mut digits = room::digits();
-    spell(bytes, &mut digits);
-    io::write_all(STDOUT_FILENO, part(&digits, 0, 2 * n))
-}
-
-fn spell(bytes: &[u8], out: &mut [u8])
-    requires { ⌜ 2 * length (now bytes) ≤ length (now out) ⌝ }
-{
-    let mut i = 0;
-    while i < bytes.len() {
-        out[2 * i] = digit(bytes[i] / 16);
-        out[2 * i + 1] = digit(bytes[i]);
-        i += 1;
-    }
-}
-
-// The digit of the last four bits.
-fn digit(x: u8) -> u8 {
-    let d = x % 16;
-    if d < 10 { b'0' + d } else { b'a' - 10 + d }
+    let n = spelled::write_bytes(bytes, &mut digits);
+    io::write_all(STDOUT_FILENO, part(&digits, 0, n))
 }
 
 // A number behind a space.
 fn next_number(n: usize) -> bool {
     byte(b' ') & io::print_decimal(STDOUT_FILENO, n as u64)
+}
+
+// A word behind a space, with all of its digits.
+pub(crate) fn word(word: u64, wide: bool) -> bool {
+    byte(b' ') & io::print_hex(STDOUT_FILENO, word, if wide { 16 } else { 8 })
 }
 
 // Where a session stands, each number behind a space, and last the name of its standing.

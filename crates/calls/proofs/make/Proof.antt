@@ -1,7 +1,9 @@
 -- `calls::make`: by the number of the call.
 -- Assumes nothing.
-use mathlib.Core.Path.{sym, _∙_}
-use Rattle.calls.specs.Calls.{madeCall, madeOut}
+use mathlib.Core.Path.{_≡_, sym, _∙_}
+use mathlib.Core.Bool.{true, false}
+use Rattle.held.specs.declared.HeldStep.{HeldStep}
+use Rattle.calls.specs.Calls.{startCall, madeCall, madeOut}
 use Rattle.calls.proofs.Number.{at-seals, at-opens, at-starts, at-checks, at-offers, at-closes}
 use borrow.Author.Needs.{needs}
 use Rattle.calls.proofs.make.Statement.{statement}
@@ -25,13 +27,17 @@ returns-3 : tie.Need-returns-3
 unfolding madeCall madeOut
 returns-3 c =
     let last = c .before in
-    (c .start .ensures ∙ sym (at-starts _ _ _ _ _ _ _ (last .before .before .if1 .left) (last .before .if2 .left) (last .if3 .taken)), sym (at-starts _ _ _ _ _ _ _ (last .before .before .if1 .left) (last .before .if2 .left) (last .if3 .taken)))
+    let x = last .before .before .before .before .before .args in
+    let started : _≡_ {A = HeldStep} (c .start .result) (startCall (x .a) (x .memory .now) false) = c .start .ensures in
+    (started ∙ sym (at-starts _ _ _ _ _ _ _ (last .before .before .if1 .left) (last .before .if2 .left) (last .if3 .taken)), sym (at-starts _ _ _ _ _ _ _ (last .before .before .if1 .left) (last .before .if2 .left) (last .if3 .taken)))
 
 returns-4 : tie.Need-returns-4
 unfolding madeCall madeOut
 returns-4 c =
     let last = c .before in
-    (c .start2 .ensures ∙ sym (at-checks _ _ _ _ _ _ _ (last .before .before .before .if1 .left) (last .before .before .if2 .left) (last .before .if3 .left) (last .if4 .taken)), sym (at-checks _ _ _ _ _ _ _ (last .before .before .before .if1 .left) (last .before .before .if2 .left) (last .before .if3 .left) (last .if4 .taken)))
+    let x = last .before .before .before .before .before .before .args in
+    let started : _≡_ {A = HeldStep} (c .start2 .result) (startCall (x .a) (x .memory .now) true) = c .start2 .ensures in
+    (started ∙ sym (at-checks _ _ _ _ _ _ _ (last .before .before .before .if1 .left) (last .before .before .if2 .left) (last .before .if3 .left) (last .if4 .taken)), sym (at-checks _ _ _ _ _ _ _ (last .before .before .before .if1 .left) (last .before .before .if2 .left) (last .before .if3 .left) (last .if4 .taken)))
 
 returns-5 : tie.Need-returns-5
 unfolding madeCall madeOut

@@ -1,0 +1,13 @@
+-- `calls::is_call`: by the number of the call.
+-- Assumes nothing.
+use mathlib.Core.Path.{refl}
+use Rattle.calls.specs.Calls.{isCall}
+use Rattle.calls.proofs.is_call.Statement.{statement}
+use Rattle.calls.proofs.is_call.Tie as tie
+
+returns : tie.Need-returns
+unfolding isCall
+returns c = refl
+
+pub is-call-spec : {M : Type 1} → statement M
+is-call-spec = tie.close (tie.spec returns)

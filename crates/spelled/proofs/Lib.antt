@@ -1,0 +1,5 @@
+pub mod Hex
+pub mod Says
+pub mod Spells
+pub mod Unique
+pub mod Writing
