@@ -45,53 +45,6 @@ fn is_repeat(word: &[u8]) -> bool
     false
 }
 
-// Writes the word of some bytes to the front of a buffer, and gives its length; where there is no room for it, nothing is changed, and 0 given.
-pub fn write_bytes(bytes: &[u8], out: &mut [u8]) -> usize
-    ensures length { λ r. ⌜ r ≡ putLength (plainWord (was bytes)) (was out) ⌝ }
-    ensures word { λ _. ⌜ now (out .exit) ≡ putFront (plainWord (was bytes)) (was out) ⌝ }
-{
-    if bytes.len() == 0 {
-        return write_none(out);
-    }
-    if out.len() / 2 < bytes.len() {
-        return 0;
-    }
-    write_pairs(bytes, out);
-    2 * bytes.len()
-}
-
-fn write_none(out: &mut [u8]) -> usize
-    ensures length { λ r. ⌜ r ≡ putLength (45 ∷ []) (was out) ⌝ }
-    ensures word { λ _. ⌜ now (out .exit) ≡ putFront (45 ∷ []) (was out) ⌝ }
-{
-    if out.len() == 0 {
-        return 0;
-    }
-    out[0] = b'-';
-    1
-}
-
-// Two digits for each byte.
-fn write_pairs(bytes: &[u8], out: &mut [u8])
-    requires { ⌜ 2 * length (now bytes) ≤ length (now out) ⌝ }
-    ensures { λ _. ⌜ now (out .exit) ≡ hexText (was bytes) ++ drop (2 * length (was bytes)) (was out) ⌝ }
-{
-    let mut i = 0;
-    while i < bytes.len() {
-        out[2 * i] = digit_of(bytes[i] / 16);
-        out[2 * i + 1] = digit_of(bytes[i] % 16);
-        i += 1;
-    }
-}
-
-// The byte of a hexadecimal digit.
-fn digit_of(d: u8) -> u8
-    requires { ⌜ d < 16 ⌝ }
-    ensures { λ r. ⌜ r ≡ hexDigit d ⌝ }
-{
-    if d < 10 { b'0' + d } else { b'a' - 10 + d }
-}
-
 // Two digits for each byte.
 fn read_pairs(word: &[u8], out: &mut [u8]) -> Spelled
     ensures { λ r. ⌜ ReadIs (AsPairs (was word)) (was out) (now (out .exit)) r ⌝ }
@@ -189,4 +142,51 @@ fn digit(b: u8) -> u8
         b'a'..=b'f' => b - b'a' + 10,
         _ => 16,
     }
+}
+
+// Writes the word of some bytes to the front of a buffer, and gives its length; where there is no room for it, nothing is changed, and 0 given.
+pub fn write_bytes(bytes: &[u8], out: &mut [u8]) -> usize
+    ensures length { λ r. ⌜ r ≡ putLength (plainWord (was bytes)) (was out) ⌝ }
+    ensures word { λ _. ⌜ now (out .exit) ≡ putFront (plainWord (was bytes)) (was out) ⌝ }
+{
+    if bytes.len() == 0 {
+        return write_none(out);
+    }
+    if out.len() / 2 < bytes.len() {
+        return 0;
+    }
+    write_pairs(bytes, out);
+    2 * bytes.len()
+}
+
+fn write_none(out: &mut [u8]) -> usize
+    ensures length { λ r. ⌜ r ≡ putLength (45 ∷ []) (was out) ⌝ }
+    ensures word { λ _. ⌜ now (out .exit) ≡ putFront (45 ∷ []) (was out) ⌝ }
+{
+    if out.len() == 0 {
+        return 0;
+    }
+    out[0] = b'-';
+    1
+}
+
+// Two digits for each byte.
+fn write_pairs(bytes: &[u8], out: &mut [u8])
+    requires { ⌜ 2 * length (now bytes) ≤ length (now out) ⌝ }
+    ensures { λ _. ⌜ now (out .exit) ≡ hexText (was bytes) ++ drop (2 * length (was bytes)) (was out) ⌝ }
+{
+    let mut i = 0;
+    while i < bytes.len() {
+        out[2 * i] = digit_of(bytes[i] / 16);
+        out[2 * i + 1] = digit_of(bytes[i] % 16);
+        i += 1;
+    }
+}
+
+// The byte of a hexadecimal digit.
+fn digit_of(d: u8) -> u8
+    requires { ⌜ d < 16 ⌝ }
+    ensures { λ r. ⌜ r ≡ hexDigit d ⌝ }
+{
+    if d < 10 { b'0' + d } else { b'a' - 10 + d }
 }

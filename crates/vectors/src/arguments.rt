@@ -9,7 +9,7 @@ use crate::names::WORDS;
 use crate::names::find;
 use crate::parts::part;
 use crate::room::BYTES_MOST;
-use calls::Words;
+use dispatch::Words;
 
 // The most words behind a call's name.
 const MOST: usize = 8;

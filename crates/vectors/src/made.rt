@@ -12,11 +12,11 @@ use answers::number;
 pub(crate) fn answered(k: usize, a: Arguments, memory: &[u8], mut run: Run) -> Run {
     let held = run.held;
     let words = a.words;
-    if !calls::is_call(k, words, held) {
+    if !dispatch::is_call(k, words, held) {
         return no_call(run);
     }
     let mut out = room::out();
-    let step = calls::make(k, words, memory, held, first(&mut out, a.lent));
+    let step = dispatch::make(k, words, memory, held, first(&mut out, a.lent));
     let answer = step.answer;
     let next = step.session;
     run.held = next;

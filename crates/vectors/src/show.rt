@@ -21,7 +21,7 @@ fn tell_constants(wide: bool) -> bool {
     let mut written = true;
     let mut i = 0;
     while i < 16 {
-        written = written & tell::word(calls::constant(wide, i), wide);
+        written = written & tell::word(dispatch::constant(wide, i), wide);
         i += 1;
     }
     written
@@ -52,7 +52,7 @@ fn tell_words(held: Held) -> bool {
 pub(crate) fn put(a: Arguments, mut run: Run) -> Run {
     let words = a.words;
     let held = run.held;
-    let next = calls::put(words, held);
+    let next = dispatch::put(words, held);
     run.held = next;
     run.told(tell::answer(0))
 }

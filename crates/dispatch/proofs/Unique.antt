@@ -1,0 +1,36 @@
+-- Any two results that the contract of a public function allows are equal, with what every lent buffer then holds. Stated over the contracts' own readings.
+-- Assumes nothing.
+use mathlib.Core.Path.{_≡_, sym, _∙_}
+use denote.Ref.{now}
+use denote.Triple.Clauses.{AtExit}
+use contract.Lifetimes.{Lfts}
+use borrow.Fn.World.{ArgsD, ResD}
+use borrow.Fn.Kinds.{endedOf}
+use Rattle.dispatch.proofs.make.{signature as signature-make}
+use Rattle.dispatch.proofs.make.Kinds as kinds-make
+use Rattle.dispatch.proofs.make.Reads.{Post as Post-make}
+use Rattle.dispatch.proofs.put.{signature as signature-put}
+use Rattle.dispatch.proofs.put.Kinds as kinds-put
+use Rattle.dispatch.proofs.put.Reads.{Post as Post-put}
+use Rattle.dispatch.proofs.constant.{signature as signature-constant}
+use Rattle.dispatch.proofs.constant.Kinds as kinds-constant
+use Rattle.dispatch.proofs.constant.Reads.{Post as Post-constant}
+use Rattle.dispatch.proofs.is_call.{signature as signature-is-call}
+use Rattle.dispatch.proofs.is_call.Kinds as kinds-is-call
+use Rattle.dispatch.proofs.is_call.Reads.{Post as Post-is-call}
+
+pub one-make : (κs : Lfts 2) (a : ArgsD signature-make κs) (r r′ : ResD signature-make κs) (s s′ : AtExit (endedOf 2 kinds-make.ps kinds-make.r) κs)
+    → Post-make κs a r s → Post-make κs a r′ s′ → (r ≡ r′) × (now (s .1 .1 .1 .1 .0) ≡ now (s′ .1 .1 .1 .1 .0))
+one-make κs a r r′ s s′ p q = (p .0 ∙ sym (q .0), p .1 ∙ sym (q .1))
+
+pub one-put : (κs : Lfts 0) (a : ArgsD signature-put κs) (r r′ : ResD signature-put κs) (s s′ : AtExit (endedOf 0 kinds-put.ps kinds-put.r) κs)
+    → Post-put κs a r s → Post-put κs a r′ s′ → r ≡ r′
+one-put κs a r r′ s s′ p q = p ∙ sym q
+
+pub one-constant : (κs : Lfts 0) (a : ArgsD signature-constant κs) (r r′ : ResD signature-constant κs) (s s′ : AtExit (endedOf 0 kinds-constant.ps kinds-constant.r) κs)
+    → Post-constant κs a r s → Post-constant κs a r′ s′ → r ≡ r′
+one-constant κs a r r′ s s′ p q = p ∙ sym q
+
+pub one-is-call : (κs : Lfts 0) (a : ArgsD signature-is-call κs) (r r′ : ResD signature-is-call κs) (s s′ : AtExit (endedOf 0 kinds-is-call.ps kinds-is-call.r) κs)
+    → Post-is-call κs a r s → Post-is-call κs a r′ s′ → r ≡ r′
+one-is-call κs a r r′ s s′ p q = p ∙ sym q

@@ -1,0 +1,47 @@
+-- `dispatch::open`: the library's own call.
+-- Assumes nothing.
+use mathlib.Core.Path.{ap, _∙_}
+use mathlib.Core.List.{List}
+use Prim.Native.Nat.{ℕ}
+use Rattle.sealing.specs.Widths.{openAnswerAt, openOutAt}
+use Rattle.dispatch.specs.Calls.{answered, openCall, openCallOut}
+use Rattle.dispatch.proofs.Same.{by-same}
+use borrow.Author.Needs.{needs}
+use Rattle.dispatch.proofs.open.Statement.{statement}
+use Rattle.dispatch.proofs.open.Tie as tie
+
+returns : tie.Need-returns
+unfolding openCall openCallOut
+returns c =
+    let called = c .before .before in
+    let trailer = called .before .before in
+    let text = trailer .before in
+    let header = text .before in
+    let nonce = header .before in
+    let key = nonce .before in
+    let rounds = key .before in
+    let width = rounds .before in
+    let x = width .before .before .before .args in (
+      ap (answered (x .held))
+          (called .open .ensures .0
+          ∙ by-same (λ w l k n h d t. openAnswerAt w l k n h d t (x .out .now))
+          (width .low .ensures) (rounds .low2 .ensures) (key .stretch .ensures) (nonce .stretch2 .ensures) (header .stretch3 .ensures) (text .stretch4 .ensures) (trailer .stretch5 .ensures)),
+      called .open .ensures .1 .0
+          ∙ by-same (λ w l k n h d t. openOutAt w l k n h d t (x .out .now))
+          (width .low .ensures) (rounds .low2 .ensures) (key .stretch .ensures) (nonce .stretch2 .ensures) (header .stretch3 .ensures) (text .stretch4 .ensures) (trailer .stretch5 .ensures),
+    )
+
+pub open-spec : {M : Type 1} → statement M
+open-spec =
+    tie.close
+    (tie.spec
+    (λ c κs. search needs)
+    (λ c κs. search needs)
+    (λ c κs. search needs)
+    (λ c κs. search needs)
+    (λ c κs. search needs)
+    (λ c κs. search needs)
+    (λ c κs. search needs)
+    (λ c κs. search needs)
+    (λ c. search needs)
+    returns)

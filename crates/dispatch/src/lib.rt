@@ -1,0 +1,230 @@
+// The library's calls, their arguments in plain numbers: for programs that are given a call as data. A text is a stretch of one memory.
+ghost use mathlib.Core.Path.{_≡_};
+ghost use Rattle.norx.specs.Lent.{was};
+ghost use Rattle.dispatch.specs.Calls.{low as lowOf, stretchOf, partOf, editionOf, termsOf, labelOf, sealCall, sealCallOut, openCall, openCallOut, startCall, pieceCall, pieceCallOut, closeCall, closeCallTag, standingOf, putCall, madeCall, madeOut, isCall, constantOf};
+use held::Held;
+use held::HeldStep;
+use places::Label;
+use places::Part;
+use places::Place;
+use places::Standing;
+use places::terms::Edition;
+use places::terms::Terms;
+
+mod w32;
+mod w64;
+
+// The words of a call, in their order: a number, or of a text the place in the memory where it ends; it begins where the one before it ended, the first at 0.
+pub struct Words {
+    pub first: usize,
+    pub second: usize,
+    pub third: usize,
+    pub fourth: usize,
+    pub fifth: usize,
+    pub sixth: usize,
+    pub seventh: usize,
+    pub eighth: usize,
+}
+
+// Makes the call of a number: 1 seals, 2 opens, 3 starts a sealing and 4 a checking session, 5 offers a piece, and any other closes.
+pub fn make(k: usize, a: Words, memory: &[u8], held: Held, out: &mut [u8]) -> HeldStep
+    ensures step { λ r. ⌜ r ≡ madeCall k a (was memory) held (was out) ⌝ }
+    ensures output { λ _. ⌜ now (out .exit) ≡ madeOut k a (was memory) held (was out) ⌝ }
+{
+    if k == 1 {
+        return seal(a, memory, held, out);
+    }
+    if k == 2 {
+        return open(a, memory, held, out);
+    }
+    if k == 3 {
+        return start(false, a, memory);
+    }
+    if k == 4 {
+        return start(true, a, memory);
+    }
+    if k == 5 {
+        return piece(a, memory, held, out);
+    }
+    close(a, memory, held, out)
+}
+
+// Whether the call of a number can be made on what is held: a start is at one of the two widths, a checking session takes no output, and each kind is closed by a number of its own, 6 a sealing and 7 a checking session.
+pub fn is_call(k: usize, a: Words, held: Held) -> bool
+    ensures { λ r. ⌜ r ≡ isCall k a held ⌝ }
+{
+    let seals_or_opens = (k == 1) | (k == 2);
+    let starts = ((k == 3) | (k == 4)) & ((a.first == 32) | (a.first == 64));
+    let offers = (k == 5) & (!held.check | (a.fifth == 0));
+    let closes = (k == 6) & !held.check;
+    let checks = (k == 7) & held.check;
+    seals_or_opens | starts | offers | closes | checks
+}
+
+// Width, rounds, key, nonce, header, body, trailer.
+fn seal(a: Words, memory: &[u8], held: Held, out: &mut [u8]) -> HeldStep
+    ensures step { λ r. ⌜ r ≡ sealCall a (was memory) held (was out) ⌝ }
+    ensures output { λ _. ⌜ now (out .exit) ≡ sealCallOut a (was memory) (was out) ⌝ }
+{
+    let answer = sealing::seal(
+        low(a.first),
+        low(a.second),
+        stretch(memory, 0, a.third),
+        stretch(memory, a.third, a.fourth),
+        stretch(memory, a.fourth, a.fifth),
+        stretch(memory, a.fifth, a.sixth),
+        stretch(memory, a.sixth, a.seventh),
+        out,
+    );
+    HeldStep {
+        answer,
+        session: held,
+    }
+}
+
+// Width, rounds, key, nonce, header, sealed text, trailer.
+fn open(a: Words, memory: &[u8], held: Held, out: &mut [u8]) -> HeldStep
+    ensures step { λ r. ⌜ r ≡ openCall a (was memory) held (was out) ⌝ }
+    ensures output { λ _. ⌜ now (out .exit) ≡ openCallOut a (was memory) (was out) ⌝ }
+{
+    let answer = sealing::open(
+        low(a.first),
+        low(a.second),
+        stretch(memory, 0, a.third),
+        stretch(memory, a.third, a.fourth),
+        stretch(memory, a.fourth, a.fifth),
+        stretch(memory, a.fifth, a.sixth),
+        stretch(memory, a.sixth, a.seventh),
+        out,
+    );
+    HeldStep {
+        answer,
+        session: held,
+    }
+}
+
+// Width, which is 64 or else 32, rounds, key, nonce, revision.
+fn start(check: bool, a: Words, memory: &[u8]) -> HeldStep
+    ensures { λ r. ⌜ r ≡ startCall a (was memory) check ⌝ }
+{
+    Held::start(
+        check,
+        a.first == 64,
+        stretch(memory, 0, a.third),
+        stretch(memory, a.third, a.fourth),
+        terms(a.second, a.fifth),
+    )
+}
+
+// Revision, part, offset, bytes.
+fn piece(a: Words, memory: &[u8], held: Held, out: &mut [u8]) -> HeldStep
+    ensures step { λ r. ⌜ r ≡ pieceCall a (was memory) held (was out) ⌝ }
+    ensures output { λ _. ⌜ now (out .exit) ≡ pieceCallOut a (was memory) held (was out) ⌝ }
+{
+    held.piece(label(a), stretch(memory, 0, a.fourth), out)
+}
+
+// Revision, and the tag that a checking session is given.
+fn close(a: Words, memory: &[u8], held: Held, out: &mut [u8]) -> HeldStep
+    ensures step { λ r. ⌜ r ≡ closeCall a (was memory) held (was out) ⌝ }
+    ensures tag { λ _. ⌜ now (out .exit) ≡ closeCallTag a (was memory) held (was out) ⌝ }
+{
+    held.close(edition(a.first), stretch(memory, 0, a.second), out)
+}
+
+// The same session at another place: note, body, trailer, rounds, revision, standing.
+pub fn put(a: Words, mut held: Held) -> Held
+    ensures { λ r. ⌜ r ≡ putCall a held ⌝ }
+{
+    let place = Place {
+        standing: standing(a.sixth),
+        note: a.first,
+        body: a.second,
+        trailer: a.third,
+        terms: terms(a.fourth, a.fifth),
+    };
+    held.place = place;
+    held
+}
+
+// The i'th of the constants u0 to u15 at a width; 0 from 16 on.
+pub fn constant(wide: bool, i: usize) -> u64
+    ensures { λ r. ⌜ r ≡ constantOf wide i ⌝ }
+{
+    if wide {
+        w64::constant(i)
+    } else {
+        w32::constant(i) as u64
+    }
+}
+
+// The bytes from a place up to another; none where these are no places of the memory in that order.
+fn stretch(memory: &[u8], from: usize, to: usize) -> &[u8]
+    ensures { λ r. ⌜ now r ≡ stretchOf from to (was memory) ⌝ }
+{
+    if memory.len() < to {
+        return &memory[0..0];
+    }
+    if to < from {
+        return &memory[0..0];
+    }
+    &memory[from..to]
+}
+
+fn terms(rounds: usize, revision: usize) -> Terms
+    ensures { λ r. ⌜ r ≡ termsOf rounds revision ⌝ }
+{
+    let edition = edition(revision);
+    Terms {
+        rounds: low(rounds),
+        edition,
+    }
+}
+
+fn edition(revision: usize) -> Edition
+    ensures { λ r. ⌜ r ≡ editionOf revision ⌝ }
+{
+    Edition {
+        revision: revision as u64,
+    }
+}
+
+// A number's last 32 bits.
+fn low(n: usize) -> u32
+    ensures { λ r. ⌜ r ≡ lowOf n ⌝ }
+{
+    (n % 4294967296) as u32
+}
+
+fn label(a: Words) -> Label
+    ensures { λ r. ⌜ r ≡ labelOf a ⌝ }
+{
+    Label {
+        edition: edition(a.first),
+        part: part(a.second),
+        offset: a.third,
+    }
+}
+
+// 1 is the body, 2 the trailer, and any other number the note.
+fn part(k: usize) -> Part
+    ensures { λ r. ⌜ r ≡ partOf k ⌝ }
+{
+    if k == 1 {
+        return Part::Body;
+    }
+    if k == 2 {
+        return Part::Trailer;
+    }
+    Part::Note
+}
+
+// 0 is closed, and any other number open, in the part of the number before it.
+fn standing(k: usize) -> Standing
+    ensures { λ r. ⌜ r ≡ standingOf k ⌝ }
+{
+    if k == 0 {
+        return Standing::Closed;
+    }
+    Standing::Open(part(k - 1))
+}
