@@ -14,7 +14,7 @@ pub enum Spelled {
     Nothing,
 }
 
-// Reads the bytes that a word spells to the front of a buffer; a word that spells none, or more than there is room for, changes nothing.
+// Reads the bytes that a word spells to the front of a buffer; a word in none of these forms, or of more bytes than there is room for, changes nothing.
 pub fn read_bytes(word: &[u8], out: &mut [u8]) -> Spelled
     ensures { λ r. ⌜ ReadIs (Spells (was word)) (was out) (now (out .exit)) r ⌝ }
 {
