@@ -3,7 +3,7 @@
 use mathlib.Core.Path.{_≡_, refl, sym, ap, ap₂, subst, _∙_}
 use mathlib.Core.Logic.{_⊎_, inl, inr, ⊎-elim}
 use mathlib.Core.List.{List, [], _∷_, _++_}
-use Prim.Native.Nat.{ℕ, zero, suc, _+_, _-_, _*_, _/_, _%_, _<_, _≤_}
+use Prim.Native.Nat.{ℕ, zero, suc, _+_, _-_, _*_, _<_, _≤_}
 use native.Mathlib.Omega.{arith}
 use native.Mathlib.Nat.{sub-zero}
 use lib.ListN.{length, getD, take, drop, replicate, length-replicate, take-append-drop}
@@ -11,7 +11,7 @@ use lib.Seq.{length-take-le}
 use Rattle.norx.specs.Texts.{Bytes}
 use Rattle.decimal.specs.Decimal.{numText}
 use Rattle.decimal.proofs.Digits.{length-pos, num-inj}
-use Rattle.spelled.specs.Spelled.{hexDigit, hexText, AsNone, AsPairs, AsTimes, Spells, ReadIs, IsDigit, AllDigits, Starred}
+use Rattle.spelled.specs.Spelled.{hexText, AsPairs, AsTimes, Spells, ReadIs, IsDigit, AllDigits, Starred}
 use Rattle.spelled.specs.declared.Spelled.{Spelled}
 use Rattle.spelled.specs.declared.Spelled.the-variants.{Length, Nothing}
 use Rattle.spelled.proofs.Hex.{no-digit, length-hex, hex-inj, hex-digits, digits-bytes}

@@ -1,8 +1,6 @@
 -- `dispatch::open`: the library's own call.
 -- Assumes nothing.
 use mathlib.Core.Path.{ap, _∙_}
-use mathlib.Core.List.{List}
-use Prim.Native.Nat.{ℕ}
 use Rattle.sealing.specs.Widths.{openAnswerAt, openOutAt}
 use Rattle.dispatch.specs.Calls.{answered, openCall, openCallOut}
 use Rattle.dispatch.proofs.Same.{by-same}

@@ -4,7 +4,6 @@ use mathlib.Core.Path.{ap, ap₂, _∙_}
 use mathlib.Core.List.{List}
 use Prim.Native.Nat.{ℕ}
 use lib.Dec.{eqb}
-use Rattle.places.specs.declared.terms.Terms.{Terms}
 use Rattle.held.specs.Held.{heldStart}
 use Rattle.dispatch.specs.Calls.{stretchOf, startCall}
 use borrow.Author.Needs.{needs}

@@ -1,7 +1,5 @@
 -- `spelled::all_digits`: before the turn i the first i bytes are digits.
 -- Assumes nothing.
-use mathlib.Core.Logic.{⊎-elim, inl, inr}
-use mathlib.Core.Path.{_≡_, subst}
 use Prim.Native.Nat.{ℕ, _-_, _≤_, _<_}
 use native.Mathlib.Omega.{arith}
 use borrow.Author.Needs.{needs}

@@ -1,7 +1,6 @@
 -- `spelled::read_pairs`: digits, twice as many as there are bytes.
 -- Assumes nothing.
 use mathlib.Core.Path.{refl}
-use Prim.Native.Nat.{ℕ}
 use native.Mathlib.Omega.{arith}
 use borrow.Author.Needs.{needs}
 use Rattle.spelled.proofs.Says.{says-no, says-yes}

@@ -1,11 +1,9 @@
 -- `spelled::read_times`: two digits, and a number behind the star.
 -- Assumes nothing.
-use mathlib.Core.Path.{refl, sym, ap, _∙_}
-use Prim.Native.Nat.{ℕ}
+use mathlib.Core.Path.{refl, sym, _∙_}
 use native.Mathlib.Omega.{arith}
 use borrow.Author.Needs.{needs}
 use Rattle.norx.proofs.Slices.{tail}
-use Rattle.decimal.specs.Decimal.{NumberIs}
 use Rattle.decimal.proofs.Digits.{num-inj}
 use lib.ListN.{take}
 use Rattle.spelled.specs.Spelled.{AllDigits}

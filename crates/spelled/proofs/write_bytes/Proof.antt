@@ -1,11 +1,11 @@
 -- `spelled::write_bytes`: `-` for none, pairs for others, where there is room.
 -- Assumes nothing.
-use mathlib.Core.Path.{_≡_, sym, ap, _∙_}
-use mathlib.Core.List.{List, [], _∷_, _++_}
-use Prim.Native.Nat.{ℕ, _*_, _≤_, _<_}
+use mathlib.Core.Path.{sym, ap, _∙_}
+use mathlib.Core.List.{List, _++_}
+use Prim.Native.Nat.{ℕ}
 use native.Mathlib.Omega.{arith}
 use borrow.Author.Needs.{needs}
-use lib.ListN.{length, drop}
+use lib.ListN.{drop}
 use Rattle.spelled.specs.Spelled.{hexText, putLength, putFront}
 use Rattle.spelled.proofs.Hex.{length-hex}
 use Rattle.spelled.proofs.Writing.{put-room, put-none, plain-none, plain-some}

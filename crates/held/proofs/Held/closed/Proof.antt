@@ -1,7 +1,6 @@
 -- `held::Held::closed`: put together.
 -- Assumes nothing.
 use mathlib.Core.Path.{ap}
-use Rattle.places.specs.declared.Place.{Place}
 use Rattle.held.specs.Held.{heldAt}
 use borrow.Author.Needs.{needs}
 use Rattle.held.proofs.Held.closed.Statement.{statement}
