@@ -71,6 +71,13 @@ unfoldable pub byNumber : {A : Type 0} → ℕ → A → A → A → A → A →
 byNumber k seals opens starts checks offers closes =
     cond (eqb k 1) seals (cond (eqb k 2) opens (cond (eqb k 3) starts (cond (eqb k 4) checks (cond (eqb k 5) offers closes))))
 
+-- what one call answers and leaves in the output: an opening, or else a sealing
+unfoldable pub answerAt : Bool → ℕ → ℕ → List ℕ → List ℕ → List ℕ → List ℕ → List ℕ → List ℕ → Answer
+answerAt opens w l k n h d t out = cond opens (openAnswerAt w l k n h d t out) (sealAnswerAt w l k n h d t out)
+
+unfoldable pub outAt : Bool → ℕ → ℕ → List ℕ → List ℕ → List ℕ → List ℕ → List ℕ → List ℕ → List ℕ
+outAt opens w l k n h d t out = cond opens (openOutAt w l k n h d t out) (sealOutAt w l k n h d t out)
+
 module _ (a : Words) (m : List ℕ) where
   -- a call by its width, its rounds and the five texts that follow
   abbrev pub byTexts : {A : Type 0} → (ℕ → ℕ → List ℕ → List ℕ → List ℕ → List ℕ → List ℕ → A) → A
@@ -78,17 +85,11 @@ module _ (a : Words) (m : List ℕ) where
       f (low (a .first)) (low (a .second)) (stretchOf 0 (a .third) m) (stretchOf (a .third) (a .fourth) m) (stretchOf (a .fourth) (a .fifth) m)
       (stretchOf (a .fifth) (a .sixth) m) (stretchOf (a .sixth) (a .seventh) m)
 
-  unfoldable pub sealCall : Held → List ℕ → HeldStep
-  sealCall h out = answered h (byTexts sealAnswerAt out)
+  unfoldable pub oneCall : Bool → Held → List ℕ → HeldStep
+  oneCall opens h out = answered h (byTexts (answerAt opens) out)
 
-  unfoldable pub sealCallOut : List ℕ → List ℕ
-  sealCallOut out = byTexts sealOutAt out
-
-  unfoldable pub openCall : Held → List ℕ → HeldStep
-  openCall h out = answered h (byTexts openAnswerAt out)
-
-  unfoldable pub openCallOut : List ℕ → List ℕ
-  openCallOut out = byTexts openOutAt out
+  unfoldable pub oneCallOut : Bool → List ℕ → List ℕ
+  oneCallOut opens out = byTexts (outAt opens) out
 
   -- width, rounds, key, nonce, revision; the width is 64, or else 32
   unfoldable pub startCall : Bool → HeldStep
@@ -111,11 +112,11 @@ module _ (a : Words) (m : List ℕ) where
 -- ---- The call of a number
 
 unfoldable pub madeCall : ℕ → Words → List ℕ → Held → List ℕ → HeldStep
-madeCall k a m h out = byNumber k (sealCall a m h out) (openCall a m h out) (startCall a m false) (startCall a m true) (pieceCall a m h out) (closeCall a m h out)
+madeCall k a m h out = byNumber k (oneCall a m false h out) (oneCall a m true h out) (startCall a m false) (startCall a m true) (pieceCall a m h out) (closeCall a m h out)
 
 -- a start has no output
 unfoldable pub madeOut : ℕ → Words → List ℕ → Held → List ℕ → List ℕ
-madeOut k a m h out = byNumber k (sealCallOut a m out) (openCallOut a m out) out out (pieceCallOut a m h out) (closeCallTag a m h out)
+madeOut k a m h out = byNumber k (oneCallOut a m false out) (oneCallOut a m true out) out out (pieceCallOut a m h out) (closeCallTag a m h out)
 
 -- ---- What else a program asks
 

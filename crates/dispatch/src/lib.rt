@@ -1,7 +1,8 @@
 // The library's calls, their arguments in plain numbers: for programs that are given a call as data. A text is a stretch of one memory.
 ghost use mathlib.Core.Path.{_≡_};
 ghost use Rattle.norx.specs.Lent.{was};
-ghost use Rattle.dispatch.specs.Calls.{low as lowOf, stretchOf, partOf, editionOf, termsOf, labelOf, sealCall, sealCallOut, openCall, openCallOut, startCall, pieceCall, pieceCallOut, closeCall, closeCallTag, standingOf, putCall, madeCall, madeOut, isCall, constantOf};
+ghost use Rattle.dispatch.specs.Calls.{low as lowOf, stretchOf, partOf, editionOf, termsOf, labelOf, answerAt, outAt, oneCall, oneCallOut, startCall, pieceCall, pieceCallOut, closeCall, closeCallTag, standingOf, putCall, madeCall, madeOut, isCall, constantOf};
+use answers::Answer;
 use held::Held;
 use held::HeldStep;
 use places::Label;
@@ -32,10 +33,10 @@ pub fn make(k: usize, a: Words, memory: &[u8], held: Held, out: &mut [u8]) -> He
     ensures output { λ _. ⌜ now (out .exit) ≡ madeOut k a (was memory) held (was out) ⌝ }
 {
     if k == 1 {
-        return seal(a, memory, held, out);
+        return one_call(false, a, memory, held, out);
     }
     if k == 2 {
-        return open(a, memory, held, out);
+        return one_call(true, a, memory, held, out);
     }
     if k == 3 {
         return start(false, a, memory);
@@ -61,12 +62,13 @@ pub fn is_call(k: usize, a: Words, held: Held) -> bool
     seals_or_opens | starts | offers | closes | checks
 }
 
-// Width, rounds, key, nonce, header, body, trailer.
-fn seal(a: Words, memory: &[u8], held: Held, out: &mut [u8]) -> HeldStep
-    ensures step { λ r. ⌜ r ≡ sealCall a (was memory) held (was out) ⌝ }
-    ensures output { λ _. ⌜ now (out .exit) ≡ sealCallOut a (was memory) (was out) ⌝ }
+// Opens, or else seals: width, rounds, key, nonce, header, text, trailer.
+fn one_call(opens: bool, a: Words, memory: &[u8], held: Held, out: &mut [u8]) -> HeldStep
+    ensures step { λ r. ⌜ r ≡ oneCall a (was memory) opens held (was out) ⌝ }
+    ensures output { λ _. ⌜ now (out .exit) ≡ oneCallOut a (was memory) opens (was out) ⌝ }
 {
-    let answer = sealing::seal(
+    let answer = opened_or_sealed(
+        opens,
         low(a.first),
         low(a.second),
         stretch(memory, 0, a.third),
@@ -82,24 +84,25 @@ fn seal(a: Words, memory: &[u8], held: Held, out: &mut [u8]) -> HeldStep
     }
 }
 
-// Width, rounds, key, nonce, header, sealed text, trailer.
-fn open(a: Words, memory: &[u8], held: Held, out: &mut [u8]) -> HeldStep
-    ensures step { λ r. ⌜ r ≡ openCall a (was memory) held (was out) ⌝ }
-    ensures output { λ _. ⌜ now (out .exit) ≡ openCallOut a (was memory) (was out) ⌝ }
+// The text is a sealed one, or else a body.
+fn opened_or_sealed(
+    opens: bool,
+    width: u32,
+    rounds: u32,
+    key: &[u8],
+    nonce: &[u8],
+    header: &[u8],
+    text: &[u8],
+    trailer: &[u8],
+    out: &mut [u8],
+) -> Answer
+    ensures answer { λ r. ⌜ r ≡ answerAt opens width rounds (was key) (was nonce) (was header) (was text) (was trailer) (was out) ⌝ }
+    ensures output { λ _. ⌜ now (out .exit) ≡ outAt opens width rounds (was key) (was nonce) (was header) (was text) (was trailer) (was out) ⌝ }
 {
-    let answer = sealing::open(
-        low(a.first),
-        low(a.second),
-        stretch(memory, 0, a.third),
-        stretch(memory, a.third, a.fourth),
-        stretch(memory, a.fourth, a.fifth),
-        stretch(memory, a.fifth, a.sixth),
-        stretch(memory, a.sixth, a.seventh),
-        out,
-    );
-    HeldStep {
-        answer,
-        session: held,
+    if opens {
+        sealing::open(width, rounds, key, nonce, header, text, trailer, out)
+    } else {
+        sealing::seal(width, rounds, key, nonce, header, text, trailer, out)
     }
 }
 

@@ -14,14 +14,14 @@ unfolding madeCall madeOut
 returns c =
     let called = c .before .before in
     let last = called .before .before in
-    (called .seal .ensures .0 ∙ sym (at-seals _ _ _ _ _ _ _ (last .if1 .taken)), called .seal .ensures .1 ∙ sym (at-seals _ _ _ _ _ _ _ (last .if1 .taken)))
+    (called .one-call .ensures .0 ∙ sym (at-seals _ _ _ _ _ _ _ (last .if1 .taken)), called .one-call .ensures .1 ∙ sym (at-seals _ _ _ _ _ _ _ (last .if1 .taken)))
 
 returns-2 : tie.Need-returns-2
 unfolding madeCall madeOut
 returns-2 c =
     let called = c .before .before in
     let last = called .before .before in
-    (called .open .ensures .0 ∙ sym (at-opens _ _ _ _ _ _ _ (last .before .if1 .left) (last .if2 .taken)), called .open .ensures .1 ∙ sym (at-opens _ _ _ _ _ _ _ (last .before .if1 .left) (last .if2 .taken)))
+    (called .one-call2 .ensures .0 ∙ sym (at-opens _ _ _ _ _ _ _ (last .before .if1 .left) (last .if2 .taken)), called .one-call2 .ensures .1 ∙ sym (at-opens _ _ _ _ _ _ _ (last .before .if1 .left) (last .if2 .taken)))
 
 returns-3 : tie.Need-returns-3
 unfolding madeCall madeOut

@@ -1,15 +1,14 @@
--- `dispatch::seal`: the library's own call.
+-- `dispatch::one_call`: the library's own call.
 -- Assumes nothing.
 use mathlib.Core.Path.{ap, _∙_}
-use Rattle.sealing.specs.Widths.{sealAnswerAt, sealOutAt}
-use Rattle.dispatch.specs.Calls.{answered, sealCall, sealCallOut}
+use Rattle.dispatch.specs.Calls.{answered, answerAt, outAt, oneCall, oneCallOut}
 use Rattle.dispatch.proofs.Same.{by-same}
 use borrow.Author.Needs.{needs}
-use Rattle.dispatch.proofs.seal.Statement.{statement}
-use Rattle.dispatch.proofs.seal.Tie as tie
+use Rattle.dispatch.proofs.one_call.Statement.{statement}
+use Rattle.dispatch.proofs.one_call.Tie as tie
 
 returns : tie.Need-returns
-unfolding sealCall sealCallOut
+unfolding oneCall oneCallOut
 returns c =
     let called = c .before .before in
     let trailer = called .before .before in
@@ -21,16 +20,16 @@ returns c =
     let width = rounds .before in
     let x = width .before .before .before .args in (
       ap (answered (x .held))
-          (called .seal .ensures .0
-          ∙ by-same (λ w l k n h d t. sealAnswerAt w l k n h d t (x .out .now))
+          (called .opened-or-sealed .ensures .0
+          ∙ by-same (λ w l k n h d t. answerAt (x .opens) w l k n h d t (x .out .now))
           (width .low .ensures) (rounds .low2 .ensures) (key .stretch .ensures) (nonce .stretch2 .ensures) (header .stretch3 .ensures) (text .stretch4 .ensures) (trailer .stretch5 .ensures)),
-      called .seal .ensures .1 .0
-          ∙ by-same (λ w l k n h d t. sealOutAt w l k n h d t (x .out .now))
+      called .opened-or-sealed .ensures .1
+          ∙ by-same (λ w l k n h d t. outAt (x .opens) w l k n h d t (x .out .now))
           (width .low .ensures) (rounds .low2 .ensures) (key .stretch .ensures) (nonce .stretch2 .ensures) (header .stretch3 .ensures) (text .stretch4 .ensures) (trailer .stretch5 .ensures),
     )
 
-pub seal-spec : {M : Type 1} → statement M
-seal-spec =
+pub one-call-spec : {M : Type 1} → statement M
+one-call-spec =
     tie.close
     (tie.spec
     (λ c κs. search needs)
