@@ -27,22 +27,29 @@ pub struct Words {
     pub eighth: usize,
 }
 
+// What one call does, and what a session is started for.
+const SEALING: bool = false;
+
+const OPENING: bool = true;
+
+const CHECKING: bool = true;
+
 // Makes the call of a number: 1 seals, 2 opens, 3 starts a sealing and 4 a checking session, 5 offers a piece, and any other closes.
 pub fn make(k: usize, a: Words, memory: &[u8], held: Held, out: &mut [u8]) -> HeldStep
     ensures step { λ r. ⌜ r ≡ madeCall k a (was memory) held (was out) ⌝ }
     ensures output { λ _. ⌜ now (out .exit) ≡ madeOut k a (was memory) held (was out) ⌝ }
 {
     if k == 1 {
-        return one_call(false, a, memory, held, out);
+        return one_call(SEALING, a, memory, held, out);
     }
     if k == 2 {
-        return one_call(true, a, memory, held, out);
+        return one_call(OPENING, a, memory, held, out);
     }
     if k == 3 {
-        return start(false, a, memory);
+        return start(SEALING, a, memory);
     }
     if k == 4 {
-        return start(true, a, memory);
+        return start(CHECKING, a, memory);
     }
     if k == 5 {
         return piece(a, memory, held, out);

@@ -1,8 +1,7 @@
--- `dispatch::make`: by the number of the call.
+-- `dispatch::make`: by the number of the call; what a start gives is written out, so that a refusal names it.
 -- Assumes nothing.
 use mathlib.Core.Path.{_≡_, sym, _∙_}
 use mathlib.Core.Bool.{true, false}
-use Rattle.held.specs.declared.HeldStep.{HeldStep}
 use Rattle.dispatch.specs.Calls.{startCall, madeCall, madeOut}
 use Rattle.dispatch.proofs.Number.{at-seals, at-opens, at-starts, at-checks, at-offers, at-closes}
 use borrow.Author.Needs.{needs}
@@ -28,7 +27,7 @@ unfolding madeCall madeOut
 returns-3 c =
     let last = c .before in
     let x = last .before .before .before .before .before .args in
-    let started : _≡_ {A = HeldStep} (c .start .result) (startCall (x .a) (x .memory .now) false) = c .start .ensures in
+    let started : c .start .result ≡ startCall (x .a) (x .memory .now) false = c .start .ensures in
     (started ∙ sym (at-starts _ _ _ _ _ _ _ (last .before .before .if1 .left) (last .before .if2 .left) (last .if3 .taken)), sym (at-starts _ _ _ _ _ _ _ (last .before .before .if1 .left) (last .before .if2 .left) (last .if3 .taken)))
 
 returns-4 : tie.Need-returns-4
@@ -36,7 +35,7 @@ unfolding madeCall madeOut
 returns-4 c =
     let last = c .before in
     let x = last .before .before .before .before .before .before .args in
-    let started : _≡_ {A = HeldStep} (c .start2 .result) (startCall (x .a) (x .memory .now) true) = c .start2 .ensures in
+    let started : c .start2 .result ≡ startCall (x .a) (x .memory .now) true = c .start2 .ensures in
     (started ∙ sym (at-checks _ _ _ _ _ _ _ (last .before .before .before .if1 .left) (last .before .before .if2 .left) (last .before .if3 .left) (last .if4 .taken)), sym (at-checks _ _ _ _ _ _ _ (last .before .before .before .if1 .left) (last .before .before .if2 .left) (last .before .if3 .left) (last .if4 .taken)))
 
 returns-5 : tie.Need-returns-5
