@@ -16,6 +16,7 @@ pub enum Answer {
     NotSound,
     TagDiffers,
     WidthNumber,
+    OtherJob,
 }
 
 // The number of an answer, as the table of answers gives it.
@@ -35,6 +36,7 @@ pub fn number(a: Answer) -> u32
         Answer::NotSound => 9,
         Answer::TagDiffers => 10,
         Answer::WidthNumber => 11,
+        Answer::OtherJob => 12,
     }
 }
 

@@ -6,7 +6,7 @@ use crate::job::part;
 use places::Part;
 use texts::same;
 
-// The bytes of each part, and whether they are the honest job's so far.
+// The bytes of each part, and whether they and the nonce are the honest job's so far.
 pub(crate) struct Accepted {
     pub note: usize,
     pub body: usize,
@@ -15,12 +15,13 @@ pub(crate) struct Accepted {
 }
 
 impl Accepted {
-    pub(crate) fn none() -> Accepted {
+    // Nothing yet, in a session that was begun with the honest nonce or with another.
+    pub(crate) fn none(honest: bool) -> Accepted {
         Accepted {
             note: 0,
             body: 0,
             trailer: 0,
-            honest: true,
+            honest,
         }
     }
 

@@ -1,4 +1,4 @@
-// The job that is attacked, and what it is sealed to: a message of the nonce, the ciphertext and the tag.
+// The jobs that are mixed, and what each is sealed to: a message of the nonce, the ciphertext and the tag.
 use places::Label;
 use places::Part;
 use places::terms::Edition;
@@ -10,17 +10,17 @@ pub(crate) const ROUNDS: u32 = 4;
 
 pub(crate) const KEY: [u8; 32] = *b"the key of tool 4 and the office";
 
-pub(crate) const OLD_NONCE: [u8; 32] = *b"11 has a nonce of thirty-two too";
+pub(crate) const NONCE: [u8; 32] = *b"the first nonce, of 32 bytes too";
 
-pub(crate) const NEW_NONCE: [u8; 32] = *b"12 has a nonce of thirty-two too";
+pub(crate) const OTHER_NONCE: [u8; 32] = *b"the other nonce, of 32 bytes too";
 
 pub(crate) const NOTE: [u8; 18] = *b"tool 4, two passes";
 
 pub(crate) const TRAILER: [u8; 15] = *b"lot 7, 40 parts";
 
-pub(crate) const OLD_LINE: [u8; 15] = *b"G1 X80.0 Z-6.0\n";
+pub(crate) const LINE: [u8; 15] = *b"G1 X80.0 Z-6.0\n";
 
-pub(crate) const NEW_LINE: [u8; 15] = *b"G1 X80.0 Z-4.0\n";
+pub(crate) const OTHER_LINE: [u8; 15] = *b"G1 X80.0 Z-4.0\n";
 
 // Fills a body with one line, again and again.
 pub(crate) fn fill(body: &mut [u8], line: &[u8; 15]) {
@@ -73,32 +73,14 @@ pub(crate) fn part(b: &[u8], from: usize, n: usize) -> &[u8] {
     }
 }
 
-// The session's revision, or the other of the two.
-pub(crate) fn said_revision(foreign: bool, revision: u64) -> u64 {
-    if !foreign {
-        revision
-    } else if revision == 11 {
-        12
-    } else {
-        11
-    }
-}
-
-// A session, a piece and a close of a revision: what each of them says of it.
-pub(crate) fn edition(revision: u64) -> Edition {
-    Edition { revision }
-}
-
-pub(crate) fn terms(revision: u64) -> Terms {
-    let edition = edition(revision);
+pub(crate) fn terms(edition: Edition) -> Terms {
     Terms {
         rounds: ROUNDS,
         edition,
     }
 }
 
-pub(crate) fn label(revision: u64, part: Part, offset: usize) -> Label {
-    let edition = edition(revision);
+pub(crate) fn label(edition: Edition, part: Part, offset: usize) -> Label {
     Label {
         edition,
         part,

@@ -1,5 +1,6 @@
-// Tries to make a job of two revisions pass, at both widths, and counts what passes.
+// Tries to make a job of two revisions pass, and one of two jobs, at both widths, and counts what passes.
 mod accepted;
+mod editions;
 mod job;
 mod offers;
 mod order;
@@ -9,33 +10,47 @@ mod w32;
 mod w64;
 mod ways;
 
-use job::NEW_NONCE;
-use job::OLD_NONCE;
+use editions::Editions;
+use editions::JOBS;
+use editions::REVISIONS;
+use job::NONCE;
+use job::OTHER_NONCE;
 use tally::Tally;
 use tally::say;
 
 fn main() {
-    say(b"Jobs of 300 bytes in revisions 11 and 12, sealed under one key with 4 rounds, are\n");
-    say(b"offered to checking sessions. A job passes when its close answers 0. It is unmixed\n");
-    say(b"when the bytes accepted are all of the session's revision, whole and in their order,\n");
-    say(b"and the tag and the close are of that revision too. Any other job is mixed.\n");
-    let narrow = at_32_bits();
-    let wide = at_64_bits();
-    narrow.plus(wide).print_all();
+    say(b"Two texts of 300 bytes, of two revisions of one job or of two jobs in one revision,\n");
+    say(b"sealed under one key with 4 rounds, are mixed and offered to checking sessions. What\n");
+    say(b"is offered passes when its close answers 0. It is unmixed when the bytes accepted are\n");
+    say(b"all of the session's job and revision, whole and in their order, and the nonce, the\n");
+    say(b"tag and the close are of these too. All else is mixed.\n");
+    let revisions = at_both_widths(REVISIONS, b"revisions 11 and 12 of job 7");
+    let jobs = at_both_widths(JOBS, b"jobs 7 and 8 in revision 3");
+    revisions.plus(jobs).print_all();
 }
 
-fn at_32_bits() -> Tally {
-    say(b"32-bit words, a nonce for each revision\n");
-    let apart = w32::attack(&OLD_NONCE[0..16], &NEW_NONCE[0..16]);
-    say(b"32-bit words, one nonce for both\n");
-    let shared = w32::attack(&OLD_NONCE[0..16], &OLD_NONCE[0..16]);
+fn at_both_widths(editions: Editions, name: &[u8]) -> Tally {
+    at_32_bits(editions, name).plus(at_64_bits(editions, name))
+}
+
+fn at_32_bits(editions: Editions, name: &[u8]) -> Tally {
+    title(b"32-bit words, ", name, b", a nonce for each\n");
+    let apart = w32::attack(editions, &NONCE[0..16], &OTHER_NONCE[0..16]);
+    title(b"32-bit words, ", name, b", one nonce for both\n");
+    let shared = w32::attack(editions, &NONCE[0..16], &NONCE[0..16]);
     apart.plus(shared)
 }
 
-fn at_64_bits() -> Tally {
-    say(b"64-bit words, a nonce for each revision\n");
-    let apart = w64::attack(&OLD_NONCE, &NEW_NONCE);
-    say(b"64-bit words, one nonce for both\n");
-    let shared = w64::attack(&OLD_NONCE, &OLD_NONCE);
+fn at_64_bits(editions: Editions, name: &[u8]) -> Tally {
+    title(b"64-bit words, ", name, b", a nonce for each\n");
+    let apart = w64::attack(editions, &NONCE, &OTHER_NONCE);
+    title(b"64-bit words, ", name, b", one nonce for both\n");
+    let shared = w64::attack(editions, &NONCE, &NONCE);
     apart.plus(shared)
+}
+
+fn title(words: &[u8], name: &[u8], nonces: &[u8]) {
+    say(words);
+    say(name);
+    say(nonces);
 }

@@ -8,13 +8,13 @@ use crate::order::swapped;
 use crate::ways::Way;
 use places::Part;
 
-// At most n bytes from a place of the session's revision or of the other, and what the piece says of itself.
+// At most n bytes from a place of the session's edition or of the other, and what the piece says of itself.
 pub(crate) struct Offer {
     pub part: Part,
     pub foreign_bytes: bool,
     pub from: usize,
     pub n: usize,
-    pub foreign_revision: bool,
+    pub foreign_label: bool,
     pub offset: usize,
 }
 
@@ -30,14 +30,14 @@ pub(crate) fn offered(way: Way, m: u32, p: u8, had: usize, x: u64) -> Offer {
     }
 }
 
-// A piece of the body that says it is of the session's revision.
+// A piece of the body that says it is of the session's edition.
 pub(crate) fn body(foreign_bytes: bool, from: usize, n: usize, offset: usize) -> Offer {
     Offer {
         part: Part::Body,
         foreign_bytes: foreign_bytes,
         from: from,
         n: n,
-        foreign_revision: false,
+        foreign_label: false,
         offset: offset,
     }
 }
@@ -47,7 +47,7 @@ fn nothing() -> Offer {
     body(false, 0, 0, 0)
 }
 
-// The first k bytes of one revision and the rest of the other, for each k from 1 to all 300 of them.
+// The first k bytes of one edition and the rest of the other, for each k from 1 to all 300 of them.
 fn cut(m: u32, p: u8) -> Offer {
     let k = (m / 4 % 300 + 1) as usize;
     let foreign_first = m / 2 % 2 == 1;
@@ -72,7 +72,7 @@ fn honest(m: u32, p: u8) -> Offer {
     }
 }
 
-// Retries that must be refused: under the other revision, from an old offset, and of a part that has ended.
+// Retries that must be refused: under the other edition, from an old offset, and of a part that has ended.
 fn retry(k: usize, p: u8) -> Offer {
     match p {
         1 => Offer {
@@ -80,7 +80,7 @@ fn retry(k: usize, p: u8) -> Offer {
             foreign_bytes: true,
             from: k,
             n: BODY,
-            foreign_revision: true,
+            foreign_label: true,
             offset: k,
         },
         2 => body(false, 0, k, 0),
@@ -96,7 +96,7 @@ fn whole(part: Part) -> Offer {
         foreign_bytes: false,
         from: 0,
         n: BODY,
-        foreign_revision: false,
+        foreign_label: false,
         offset: 0,
     }
 }
@@ -128,7 +128,7 @@ fn random_body(had: usize, x: u64) -> Offer {
         foreign_bytes: x % 8 == 0,
         from: if x / 64 % 4 == 0 { place } else { had },
         n: (x / 307200 % 60) as usize + 1,
-        foreign_revision: x / 8 % 8 == 0,
+        foreign_label: x / 8 % 8 == 0,
         offset: if x / 256 % 4 == 0 { place } else { had },
     }
 }

@@ -1,4 +1,4 @@
-// The pieces of one revision in another order: 15 of 20 bytes, or 7 of 48, or 4 of 96; 48 and 96 are the blocks of the two widths.
+// The pieces of one edition in another order: 15 of 20 bytes, or 7 of 48, or 4 of 96; 48 and 96 are the blocks of the two widths.
 use crate::offers::Offer;
 use crate::offers::body;
 

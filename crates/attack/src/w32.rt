@@ -1,18 +1,17 @@
 // Jobs sealed, and offered to checking sessions, at 32-bit words.
 use crate::accepted::Accepted;
+use crate::editions::Editions;
 use crate::job::BODY;
 use crate::job::KEY;
-use crate::job::NEW_LINE;
+use crate::job::LINE;
 use crate::job::NOTE;
-use crate::job::OLD_LINE;
+use crate::job::OTHER_LINE;
 use crate::job::TRAILER;
-use crate::job::edition;
 use crate::job::fill;
 use crate::job::label;
 use crate::job::lay;
 use crate::job::nonce;
 use crate::job::part;
-use crate::job::said_revision;
 use crate::job::tag;
 use crate::job::terms;
 use crate::job::text;
@@ -24,9 +23,11 @@ use crate::tally::Tally;
 use crate::ways::End;
 use crate::ways::Way;
 use crate::ways::ending;
+use crate::ways::foreign_nonce;
 use crate::ways::jobs;
 use answers::done;
 use places::Part;
+use places::terms::Edition;
 use rules::w32::*;
 use session32::check::Checking;
 use session32::seal::Sealing;
@@ -41,55 +42,67 @@ struct Run {
 }
 
 // Offers the jobs of every way, prints how each way went, and gives them all together.
-pub(crate) fn attack(old_nonce: &[u8], new_nonce: &[u8]) -> Tally {
-    let mut old = [0u8; MESSAGE];
-    let mut new = [0u8; MESSAGE];
-    seal(11, old_nonce, &OLD_LINE, &mut old);
-    seal(12, new_nonce, &NEW_LINE, &mut new);
-    every_way(&old, &new)
+pub(crate) fn attack(editions: Editions, nonce: &[u8], other_nonce: &[u8]) -> Tally {
+    let mut own = [0u8; MESSAGE];
+    let mut other = [0u8; MESSAGE];
+    seal(editions.own, nonce, &LINE, &mut own);
+    seal(editions.other, other_nonce, &OTHER_LINE, &mut other);
+    every_way(editions, &own, &other)
 }
 
-// Seals a revision into a message, by a sealing session.
-fn seal(revision: u64, nonce: &[u8], line: &[u8; 15], message: &mut [u8]) {
+// Seals an edition into a message, by a sealing session.
+fn seal(edition: Edition, nonce: &[u8], line: &[u8; 15], message: &mut [u8]) {
     let mut body = [0u8; BODY];
     let mut text = [0u8; BODY];
     let mut tag = [0u8; ROW];
     fill(&mut body, line);
-    let fresh = Sealing::start(&KEY[0..ROW], nonce, terms(revision));
-    let s = seal_part(fresh.session, revision, Part::Note, &NOTE, &mut [0u8; 0]);
-    let s = seal_part(s, revision, Part::Body, &body, &mut text);
-    let s = seal_part(s, revision, Part::Trailer, &TRAILER, &mut [0u8; 0]);
-    s.close(edition(revision), &mut tag);
+    let fresh = Sealing::start(&KEY[0..ROW], nonce, terms(edition));
+    let s = seal_part(fresh.session, edition, Part::Note, &NOTE, &mut [0u8; 0]);
+    let s = seal_part(s, edition, Part::Body, &body, &mut text);
+    let s = seal_part(s, edition, Part::Trailer, &TRAILER, &mut [0u8; 0]);
+    s.close(edition, &mut tag);
     lay(message, 0, nonce);
     lay(message, ROW, &text);
     lay(message, ROW + BODY, &tag);
 }
 
-fn seal_part(s: Sealing, revision: u64, part: Part, bytes: &[u8], out: &mut [u8]) -> Sealing {
-    let step = s.piece(label(revision, part, 0), bytes, out);
+fn seal_part(s: Sealing, edition: Edition, part: Part, bytes: &[u8], out: &mut [u8]) -> Sealing {
+    let step = s.piece(label(edition, part, 0), bytes, out);
     step.session
 }
 
-fn every_way(old: &[u8], new: &[u8]) -> Tally {
-    let t = counted(b"first bytes of one, rest of the other", Way::Cut, old, new);
-    let t = t.plus(counted(b"two pieces swapped", Way::Swapped, old, new));
-    let t = t.plus(counted(b"a piece repeated", Way::Repeated, old, new));
-    let t = t.plus(counted(b"a piece dropped", Way::Dropped, old, new));
-    let t = t.plus(counted(b"pieces changed at random", Way::Random, old, new));
-    t.plus(counted(b"honest pieces, refused retries", Way::Honest, old, new))
+fn every_way(e: Editions, own: &[u8], other: &[u8]) -> Tally {
+    let t = counted(
+        b"first bytes of one, rest of the other",
+        Way::Cut,
+        e,
+        own,
+        other,
+    );
+    let t = t.plus(counted(b"two pieces swapped", Way::Swapped, e, own, other));
+    let t = t.plus(counted(b"a piece repeated", Way::Repeated, e, own, other));
+    let t = t.plus(counted(b"a piece dropped", Way::Dropped, e, own, other));
+    let t = t.plus(counted(b"pieces changed at random", Way::Random, e, own, other));
+    t.plus(counted(
+        b"honest pieces, refused retries",
+        Way::Honest,
+        e,
+        own,
+        other,
+    ))
 }
 
-// Offers every job of a way, in turn to a session for revision 11 and to one for 12.
-fn counted(name: &[u8], way: Way, old: &[u8], new: &[u8]) -> Tally {
+// Offers every job of a way, in turn to a session for the one edition and to one for the other.
+fn counted(name: &[u8], way: Way, e: Editions, own: &[u8], other: &[u8]) -> Tally {
     let mut t = Tally::none();
     let mut x = SEED;
     let count = jobs(way);
     let mut n: u32 = 0;
     while n < count {
         if n % 2 == 0 {
-            t = t.plus(play(way, n / 2, x, 11, old, new));
+            t = t.plus(play(way, n / 2, x, e, own, other));
         } else {
-            t = t.plus(play(way, n / 2, x, 12, new, old));
+            t = t.plus(play(way, n / 2, x, e.turned(), other, own));
         }
         x = next_job(x);
         n += 1;
@@ -98,37 +111,45 @@ fn counted(name: &[u8], way: Way, old: &[u8], new: &[u8]) -> Tally {
     t
 }
 
-// Offers the m'th job of a way to a session for a revision; own is that revision's message.
-fn play(way: Way, m: u32, seed: u64, revision: u64, own: &[u8], other: &[u8]) -> Tally {
-    let mut run = begin(revision, own);
+// Offers the m'th job of a way to a session for its own edition; own is that edition's message.
+fn play(way: Way, m: u32, seed: u64, e: Editions, own: &[u8], other: &[u8]) -> Tally {
+    let mut run = begun(way, m, e.own, own, other);
     let mut x = seed;
     let mut p: u8 = 0;
     while p < 16 {
-        let next = step(run, way, m, p, x, revision, own, other);
+        let next = step(run, way, m, p, x, e, own, other);
         run = next;
         x = next_piece(x);
         p += 1;
     }
-    close(run, ending(way, m, x), revision, own, other)
+    close(run, ending(way, m, x), e, own, other)
 }
 
-// A session that has accepted the note.
-fn begin(revision: u64, own: &[u8]) -> Run {
-    let step = Checking::start(&KEY[0..ROW], nonce(own, ROW), terms(revision));
+// A session that has accepted the note, begun with the nonce of the one message or of the other.
+fn begun(way: Way, m: u32, edition: Edition, own: &[u8], other: &[u8]) -> Run {
+    if foreign_nonce(way, m) {
+        begin(edition, nonce(other, ROW), own)
+    } else {
+        begin(edition, nonce(own, ROW), own)
+    }
+}
+
+fn begin(edition: Edition, given: &[u8], own: &[u8]) -> Run {
+    let step = Checking::start(&KEY[0..ROW], given, terms(edition));
     let session = step.session;
-    let accepted = Accepted::none();
+    let accepted = Accepted::none(same(given, nonce(own, ROW)));
     let run = Run {
         session: session,
         accepted: accepted,
     };
-    piece(run, revision, Part::Note, 0, &NOTE, own)
+    piece(run, edition, Part::Note, 0, &NOTE, own)
 }
 
 // Offers the p'th piece of a job.
-fn step(run: Run, way: Way, m: u32, p: u8, x: u64, revision: u64, own: &[u8], other: &[u8]) -> Run {
+fn step(run: Run, way: Way, m: u32, p: u8, x: u64, e: Editions, own: &[u8], other: &[u8]) -> Run {
     let accepted = run.accepted;
     let o = offered(way, m, p, accepted.body, x);
-    let said = said_revision(o.foreign_revision, revision);
+    let said = e.said(o.foreign_label);
     let of = o.part;
     match of {
         Part::Note => piece(run, said, of, o.offset, part(&NOTE, o.from, o.n), own),
@@ -146,7 +167,7 @@ fn step(run: Run, way: Way, m: u32, p: u8, x: u64, revision: u64, own: &[u8], ot
 }
 
 // Offers a piece, and keeps what was accepted; where there are no bytes nothing is offered.
-fn piece(run: Run, said: u64, of: Part, offset: usize, bytes: &[u8], own: &[u8]) -> Run {
+fn piece(run: Run, said: Edition, of: Part, offset: usize, bytes: &[u8], own: &[u8]) -> Run {
     if bytes.len() == 0 {
         return run;
     }
@@ -170,22 +191,22 @@ fn piece(run: Run, said: u64, of: Part, offset: usize, bytes: &[u8], own: &[u8])
 }
 
 // Offers the trailer, and closes the session.
-fn close(run: Run, e: End, revision: u64, own: &[u8], other: &[u8]) -> Tally {
-    let ended = piece(run, revision, Part::Trailer, 0, &TRAILER, own);
-    let said = said_revision(e.foreign_close, revision);
-    if e.foreign_tag {
-        verdict(ended, said, tag(other, ROW), revision, own)
+fn close(run: Run, end: End, e: Editions, own: &[u8], other: &[u8]) -> Tally {
+    let ended = piece(run, e.own, Part::Trailer, 0, &TRAILER, own);
+    let said = e.said(end.foreign_close);
+    if end.foreign_tag {
+        verdict(ended, said, tag(other, ROW), !end.foreign_close, own)
     } else {
-        verdict(ended, said, tag(own, ROW), revision, own)
+        verdict(ended, said, tag(own, ROW), !end.foreign_close, own)
     }
 }
 
-// A job passed where the close is done; it is unmixed where all that was accepted and the tag are the revision's own.
-fn verdict(run: Run, said: u64, given: &[u8], revision: u64, own: &[u8]) -> Tally {
+// A job passed where the close is done; it is unmixed where all that was accepted, the tag and the close are the edition's own.
+fn verdict(run: Run, said: Edition, given: &[u8], own_close: bool, own: &[u8]) -> Tally {
     let session = run.session;
     let accepted = run.accepted;
-    let step = session.close(edition(said), given);
+    let step = session.close(said, given);
     let answer = step.answer;
-    let unmixed = accepted.whole() & (said == revision) & same(given, tag(own, ROW));
+    let unmixed = accepted.whole() & own_close & same(given, tag(own, ROW));
     Tally::one_job(unmixed, done(answer))
 }

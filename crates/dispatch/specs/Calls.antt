@@ -36,17 +36,17 @@ partOf k = cond (eqb k 1) Body (cond (eqb k 2) Trailer Note)
 unfoldable pub standingOf : ℕ → Standing
 standingOf k = cond (eqb k 0) Closed (Open (partOf (k - 1)))
 
-abbrev pub editionOf : ℕ → Edition
-editionOf revision = record { revision = revision }
+abbrev pub editionOf : ℕ → ℕ → Edition
+editionOf job revision = record { job = job; revision = revision }
 
-abbrev pub termsOf : ℕ → ℕ → Terms
-termsOf rounds revision = record { rounds = low rounds; edition = editionOf revision }
+abbrev pub termsOf : ℕ → ℕ → ℕ → Terms
+termsOf rounds job revision = record { rounds = low rounds; edition = editionOf job revision }
 
--- revision, part, offset
+-- job, revision, part, offset
 abbrev pub labelOf : Words → Label
-labelOf a = record { edition = editionOf (a .first); part = partOf (a .second); offset = a .third }
+labelOf a = record { edition = editionOf (a .first) (a .second); part = partOf (a .third); offset = a .fourth }
 
--- what is held, at another place: note, body, trailer, rounds, revision, standing
+-- what is held, at another place: note, body, trailer, rounds, job, revision, standing
 abbrev pub placed : Held → Words → Standing → Terms → Held
 placed h a standing T =
     record {
@@ -60,7 +60,7 @@ placed h a standing T =
     }
 
 abbrev pub putCall : Words → Held → Held
-putCall a h = placed h a (standingOf (a .sixth)) (termsOf (a .fourth) (a .fifth))
+putCall a h = placed h a (standingOf (a .seventh)) (termsOf (a .fourth) (a .fifth) (a .sixth))
 
 -- an answer that leaves the session as it was
 abbrev pub answered : Held → Answer → HeldStep
@@ -91,23 +91,23 @@ module _ (a : Words) (m : List ℕ) where
   unfoldable pub oneCallOut : Bool → List ℕ → List ℕ
   oneCallOut opens out = byTexts (outAt opens) out
 
-  -- width, rounds, key, nonce, revision; the width is 64, or else 32
+  -- width, rounds, key, nonce, job, revision; the width is 64, or else 32
   unfoldable pub startCall : Bool → HeldStep
-  startCall check = heldStart check (eqb (a .first) 64) (stretchOf 0 (a .third) m) (stretchOf (a .third) (a .fourth) m) (termsOf (a .second) (a .fifth))
+  startCall check = heldStart check (eqb (a .first) 64) (stretchOf 0 (a .third) m) (stretchOf (a .third) (a .fourth) m) (termsOf (a .second) (a .fifth) (a .sixth))
 
-  -- revision, part, offset, bytes
+  -- job, revision, part, offset, bytes
   unfoldable pub pieceCall : Held → List ℕ → HeldStep
-  pieceCall h out = heldPiece h (labelOf a) (stretchOf 0 (a .fourth) m) out
+  pieceCall h out = heldPiece h (labelOf a) (stretchOf 0 (a .fifth) m) out
 
   unfoldable pub pieceCallOut : Held → List ℕ → List ℕ
-  pieceCallOut h out = heldPieceOut h (labelOf a) (stretchOf 0 (a .fourth) m) out
+  pieceCallOut h out = heldPieceOut h (labelOf a) (stretchOf 0 (a .fifth) m) out
 
-  -- revision, and the bytes of a tag
+  -- job, revision, and the bytes of a tag
   unfoldable pub closeCall : Held → List ℕ → HeldStep
-  closeCall h out = heldClose h (editionOf (a .first)) (stretchOf 0 (a .second) m) out
+  closeCall h out = heldClose h (editionOf (a .first) (a .second)) (stretchOf 0 (a .third) m) out
 
   unfoldable pub closeCallTag : Held → List ℕ → List ℕ
-  closeCallTag h out = heldTag h (editionOf (a .first)) out
+  closeCallTag h out = heldTag h (editionOf (a .first) (a .second)) out
 
 -- ---- The call of a number
 
@@ -126,7 +126,7 @@ unfoldable pub isCall : ℕ → Words → Held → Bool
 isCall k a h =
     (eqb k 1 || eqb k 2)
     || ((eqb k 3 || eqb k 4) && (eqb (a .first) 32 || eqb (a .first) 64))
-    || (eqb k 5 && (not (h .check) || eqb (a .fifth) 0))
+    || (eqb k 5 && (not (h .check) || eqb (a .sixth) 0))
     || (eqb k 6 && not (h .check))
     || (eqb k 7 && h .check)
 

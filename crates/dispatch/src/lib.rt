@@ -63,7 +63,7 @@ pub fn is_call(k: usize, a: Words, held: Held) -> bool
 {
     let seals_or_opens = (k == 1) | (k == 2);
     let starts = ((k == 3) | (k == 4)) & ((a.first == 32) | (a.first == 64));
-    let offers = (k == 5) & (!held.check | (a.fifth == 0));
+    let offers = (k == 5) & (!held.check | (a.sixth == 0));
     let closes = (k == 6) & !held.check;
     let checks = (k == 7) & held.check;
     seals_or_opens | starts | offers | closes | checks
@@ -113,7 +113,7 @@ fn opened_or_sealed(
     }
 }
 
-// Width, which is 64 or else 32, rounds, key, nonce, revision.
+// Width, which is 64 or else 32, rounds, key, nonce, job, revision.
 fn start(check: bool, a: Words, memory: &[u8]) -> HeldStep
     ensures { λ r. ⌜ r ≡ startCall a (was memory) check ⌝ }
 {
@@ -122,36 +122,36 @@ fn start(check: bool, a: Words, memory: &[u8]) -> HeldStep
         a.first == 64,
         stretch(memory, 0, a.third),
         stretch(memory, a.third, a.fourth),
-        terms(a.second, a.fifth),
+        terms(a.second, a.fifth, a.sixth),
     )
 }
 
-// Revision, part, offset, bytes.
+// Job, revision, part, offset, bytes.
 fn piece(a: Words, memory: &[u8], held: Held, out: &mut [u8]) -> HeldStep
     ensures step { λ r. ⌜ r ≡ pieceCall a (was memory) held (was out) ⌝ }
     ensures output { λ _. ⌜ now (out .exit) ≡ pieceCallOut a (was memory) held (was out) ⌝ }
 {
-    held.piece(label(a), stretch(memory, 0, a.fourth), out)
+    held.piece(label(a), stretch(memory, 0, a.fifth), out)
 }
 
-// Revision, and the tag that a checking session is given.
+// Job, revision, and the tag that a checking session is given.
 fn close(a: Words, memory: &[u8], held: Held, out: &mut [u8]) -> HeldStep
     ensures step { λ r. ⌜ r ≡ closeCall a (was memory) held (was out) ⌝ }
     ensures tag { λ _. ⌜ now (out .exit) ≡ closeCallTag a (was memory) held (was out) ⌝ }
 {
-    held.close(edition(a.first), stretch(memory, 0, a.second), out)
+    held.close(edition(a.first, a.second), stretch(memory, 0, a.third), out)
 }
 
-// The same session at another place: note, body, trailer, rounds, revision, standing.
+// The same session at another place: note, body, trailer, rounds, job, revision, standing.
 pub fn put(a: Words, mut held: Held) -> Held
     ensures { λ r. ⌜ r ≡ putCall a held ⌝ }
 {
     let place = Place {
-        standing: standing(a.sixth),
+        standing: standing(a.seventh),
         note: a.first,
         body: a.second,
         trailer: a.third,
-        terms: terms(a.fourth, a.fifth),
+        terms: terms(a.fourth, a.fifth, a.sixth),
     };
     held.place = place;
     held
@@ -181,20 +181,21 @@ fn stretch(memory: &[u8], from: usize, to: usize) -> &[u8]
     &memory[from..to]
 }
 
-fn terms(rounds: usize, revision: usize) -> Terms
-    ensures { λ r. ⌜ r ≡ termsOf rounds revision ⌝ }
+fn terms(rounds: usize, job: usize, revision: usize) -> Terms
+    ensures { λ r. ⌜ r ≡ termsOf rounds job revision ⌝ }
 {
-    let edition = edition(revision);
+    let edition = edition(job, revision);
     Terms {
         rounds: low(rounds),
         edition,
     }
 }
 
-fn edition(revision: usize) -> Edition
-    ensures { λ r. ⌜ r ≡ editionOf revision ⌝ }
+fn edition(job: usize, revision: usize) -> Edition
+    ensures { λ r. ⌜ r ≡ editionOf job revision ⌝ }
 {
     Edition {
+        job: job as u64,
         revision: revision as u64,
     }
 }
@@ -210,9 +211,9 @@ fn label(a: Words) -> Label
     ensures { λ r. ⌜ r ≡ labelOf a ⌝ }
 {
     Label {
-        edition: edition(a.first),
-        part: part(a.second),
-        offset: a.third,
+        edition: edition(a.first, a.second),
+        part: part(a.third),
+        offset: a.fourth,
     }
 }
 

@@ -1,4 +1,4 @@
-// Seals a job of two lines for revision 12, a piece for each line, and checks it in pieces that are cut elsewhere.
+// Seals a job of two lines for revision 12 of job 7, a piece for each line, and checks it in pieces that are cut elsewhere.
 use answers::Answer;
 use answers::number;
 use libc::STDOUT_FILENO;
@@ -18,16 +18,19 @@ const KEY: [u8; 32] = *b"the key of tool 4 and the office";
 const NONCE: [u8; 32] = *b"the nonce of revision 12, for it";
 
 // What both sessions are for, and what each piece says of itself.
-const REVISION: Edition = Edition { revision: 12 };
+const EDITION: Edition = Edition {
+    job: 7,
+    revision: 12,
+};
 
 const TERMS: Terms = Terms {
     rounds: 4,
-    edition: REVISION,
+    edition: EDITION,
 };
 
 fn body(offset: usize) -> Label {
     Label {
-        edition: REVISION,
+        edition: EDITION,
         part: Part::Body,
         offset,
     }
@@ -47,7 +50,7 @@ fn seal(text: &mut [u8], tag: &mut [u8; 32]) -> Answer {
 
 // Writes the tag of all that was sealed.
 fn close(session: Sealing, tag: &mut [u8; 32]) -> Answer {
-    session.close(REVISION, tag).answer
+    session.close(EDITION, tag).answer
 }
 
 // Checks the text in other pieces; gives Done only where it has this tag.
@@ -62,7 +65,7 @@ fn check(text: &[u8], tag: &[u8; 32]) -> Answer {
     tell(b"the first piece once more, from an old offset: ", answer);
     let CheckingStep { answer, session } = session.piece(body(third), &text[third..]);
     let Answer::Done = answer else { return answer };
-    session.close(REVISION, tag).answer
+    session.close(EDITION, tag).answer
 }
 
 // Prints what was called, and the number of its answer.

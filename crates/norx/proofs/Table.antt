@@ -5,7 +5,7 @@ use mathlib.Core.List.{List, [], _∷_, _++_, map}
 use Prim.Native.Nat.{ℕ, zero, suc, _^_}
 use lib.ListN.{replicate}
 use Rattle.norx.specs.Norx.{word32, word64, bytesOf, ror, H, G, padded, blockCount}
-use Rattle.norx.specs.Front.{front}
+use Rattle.norx.specs.Front.{eightBytes, front}
 
 -- n left bytes, of which none is zero and no two are alike: 1, 2, .., n
 abbrev upTo : ℕ → List ℕ
@@ -23,11 +23,12 @@ pub record Numbers : Type 0 where
   pub padding-of-0 : padded 48 [] ≡ 0x01 ∷ (replicate 46 0 ++ (0x80 ∷ []))
   pub padding-of-46 : padded 48 (upTo 46) ≡ upTo 46 ++ (0x01 ∷ 0x80 ∷ [])
   pub padding-of-47 : padded 48 (upTo 47) ≡ upTo 47 ++ (0x81 ∷ [])
-  pub revision-258 : front 258 ≡ 0x02 ∷ 0x01 ∷ 0 ∷ 0 ∷ 0 ∷ 0 ∷ 0 ∷ 0 ∷ []
+  pub revision-258 : eightBytes 258 ≡ 0x02 ∷ 0x01 ∷ 0 ∷ 0 ∷ 0 ∷ 0 ∷ 0 ∷ 0 ∷ []
+  pub job-7-revision-258 : front 7 258 ≡ 0x07 ∷ 0 ∷ 0 ∷ 0 ∷ 0 ∷ 0 ∷ 0 ∷ 0 ∷ 0x02 ∷ 0x01 ∷ 0 ∷ 0 ∷ 0 ∷ 0 ∷ 0 ∷ 0 ∷ []
   pub block-counts : map (blockCount 48) (0 ∷ 1 ∷ 47 ∷ 48 ∷ 96 ∷ []) ≡ 0 ∷ 1 ∷ 1 ∷ 2 ∷ 3 ∷ []
 
 pub numbers : Numbers
-unfolding bytesOf ror H G padded blockCount front
+unfolding bytesOf ror H G padded blockCount eightBytes front
 numbers = record {
   h-of-1-1 = refl;
   h-of-3-1 = refl;
@@ -40,5 +41,6 @@ numbers = record {
   padding-of-46 = refl;
   padding-of-47 = refl;
   revision-258 = refl;
+  job-7-revision-258 = refl;
   block-counts = refl;
 }

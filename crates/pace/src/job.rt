@@ -17,7 +17,10 @@ pub(crate) const KEY: [u8; 32] = *b"the key of tool 4 and the office";
 
 pub(crate) const NONCE: [u8; 32] = *b"11 has a nonce of thirty-two too";
 
-pub(crate) const EDITION: Edition = Edition { revision: 11 };
+pub(crate) const EDITION: Edition = Edition {
+    job: 7,
+    revision: 11,
+};
 
 pub(crate) enum Work {
     Seal,

@@ -1,4 +1,4 @@
--- What is known where a start, a piece or a close is answered 0, and when it is; when it is answered 9, and that numbers alone are never answered 10; that a place stays sound.
+-- What is known where a start, a piece or a close is answered 0, and when it is; when it is answered 9 or 12, and that numbers alone are never answered 10; that a place stays sound.
 -- Assumes nothing.
 use mathlib.Core.Path.{_≡_, refl, ap}
 use mathlib.Core.Bool.{Bool, true, false, _&&_, false≢true}
@@ -9,7 +9,7 @@ use borrow.Author.Tests.{leb-true, le-leb, eqb-true, eq-eqb}
 use lib.Dec.{leb, eqb}
 use Rattle.norx.specs.Norx.{Width, rowBytes}
 use Rattle.answers.specs.declared.Answer.{Answer}
-use Rattle.answers.specs.declared.Answer.the-variants.{Done, KeyLength, RoundsNumber, TagLength, OverLimit, OutputLength, EarlierPart, OtherOffset, NotSound}
+use Rattle.answers.specs.declared.Answer.the-variants.{Done, KeyLength, RoundsNumber, TagLength, OverLimit, OutputLength, EarlierPart, OtherOffset, NotSound, OtherJob}
 use Rattle.answers.specs.Answers.{numberOf, doneOf, needOf}
 use Rattle.answers.proofs.Tests.{either}
 use Rattle.answers.proofs.Chain.{done-zero, zero-done, passed, passes, link-not, both, and-true}
@@ -24,9 +24,9 @@ use Rattle.places.specs.declared.Label.{Label}
 use Rattle.places.specs.declared.Standing.{Standing}
 use Rattle.places.specs.declared.Standing.the-variants.{Closed, Open}
 use Rattle.places.specs.declared.Place.{Place}
-use Rattle.places.specs.Terms.{termsOk}
+use Rattle.places.specs.Terms.{termsOk, editionLink}
 use Rattle.places.specs.Places.{rankOf, presentOf, limitOf, countOf, moved, countsWithin, unreachedOf, soundAt, soundOf, startAnswer, pieceAnswer, closeAnswer, Accepted}
-use Rattle.places.proofs.Editions.{edition-passed, edition-same, edition-own, edition-not}
+use Rattle.places.proofs.Editions.{edition-passed, edition-same, edition-own, edition-not, other-job, same-job}
 
 within-at : (s : Standing) (p : Place) → soundAt s p ≡ true → countsWithin p ≡ true
 within-at Closed p e = absurd (false≢true e)
@@ -173,26 +173,36 @@ sound-closes p wanted tag e f =
     let long : eqb tag wanted ≡ true = eq-eqb tag wanted f in
     rw (e, edition-own (p .terms .edition), within, long)
 
--- ---- 9 and 10
+-- ---- 9, 10 and 12
 
--- behind soundness no link of a piece or of a close answers 9 or 10
-module _ (n : ℕ) (least : 9 ≤ n) (most : n ≤ 10) (p : Place) where
-  pub piece-not : (label : Label) (k : ℕ) (exact : Bool) → soundOf p ≡ true → numberOf (pieceAnswer p label k exact) ≢ n
+-- behind soundness and the edition no link of a piece or of a close answers a number from 9 on
+module _ (n : ℕ) (least : 9 ≤ n) (p : Place) where
+  abbrev NotByEdition : Edition → Type 0
+  NotByEdition given = (rest : Answer) → numberOf rest ≢ n → numberOf (editionLink given (p .terms .edition) rest) ≢ n
+
+  piece-beyond : (label : Label) (k : ℕ) (exact : Bool) → NotByEdition (label .edition) → soundOf p ≡ true → numberOf (pieceAnswer p label k exact) ≢ n
   unfolding pieceAnswer needOf
-  piece-not label k exact sound =
+  piece-beyond label k exact not sound =
       rw sound
-      (edition-not (label .edition) (p .terms .edition) _ n least most
+      (not _
       (link-not n (leb (presentOf (p .standing)) (rankOf (label .part))) EarlierPart _ (λ e. omega arith)
       (link-not n (eqb (label .offset) (countOf p (label .part))) OtherOffset _ (λ e. omega arith)
       (link-not n (leb (countOf p (label .part) + k) (limitOf (label .part))) OverLimit _ (λ e. omega arith)
       (link-not n exact OutputLength Done (λ e. omega arith) (λ e. omega arith))))))
 
-  pub close-not : (edition : Edition) (wanted tag : ℕ) → soundOf p ≡ true → numberOf (closeAnswer p edition wanted tag) ≢ n
+  close-beyond : (edition : Edition) (wanted tag : ℕ) → NotByEdition edition → soundOf p ≡ true → numberOf (closeAnswer p edition wanted tag) ≢ n
   unfolding closeAnswer needOf
-  close-not edition wanted tag sound =
+  close-beyond edition wanted tag not sound =
       rw sound
-      (edition-not edition (p .terms .edition) _ n least most
-      (link-not n (countsWithin p) OverLimit _ (λ e. omega arith) (link-not n (eqb tag wanted) TagLength Done (λ e. omega arith) (λ e. omega arith))))
+      (not _ (link-not n (countsWithin p) OverLimit _ (λ e. omega arith) (link-not n (eqb tag wanted) TagLength Done (λ e. omega arith) (λ e. omega arith))))
+
+-- so behind soundness neither is answered 9 or 10
+module _ (n : ℕ) (least : 9 ≤ n) (most : n ≤ 10) (p : Place) where
+  pub piece-not : (label : Label) (k : ℕ) (exact : Bool) → soundOf p ≡ true → numberOf (pieceAnswer p label k exact) ≢ n
+  piece-not label k exact sound = piece-beyond n least p label k exact (λ rest. edition-not (label .edition) (p .terms .edition) rest n least most) sound
+
+  pub close-not : (edition : Edition) (wanted tag : ℕ) → soundOf p ≡ true → numberOf (closeAnswer p edition wanted tag) ≢ n
+  close-not edition wanted tag sound = close-beyond n least p edition wanted tag (λ rest. edition-not edition (p .terms .edition) rest n least most) sound
 
 -- a place that is not sound is answered 9
 module _ (p : Place) (e : soundOf p ≡ false) where
@@ -216,6 +226,38 @@ piece-never-10 p label n exact =
 pub close-never-10 : (p : Place) (edition : Edition) (wanted tag : ℕ) → numberOf (closeAnswer p edition wanted tag) ≢ 10
 close-never-10 p edition wanted tag =
     never-10 p (closeAnswer p edition wanted tag) (close-not 10 (omega arith) (omega arith) p edition wanted tag) (λ e. unsound-close p e edition wanted tag)
+
+-- 12 is answered where a place is sound and the job another, and nowhere else
+module _ (p : Place) (edition : Edition) where
+  -- an answer from which all of this is read
+  at-12 : (a : Answer) → (soundOf p ≡ false → a ≡ NotSound) → (soundOf p ≡ true → edition .job ≢ p .terms .edition .job → a ≡ OtherJob)
+      → (soundOf p ≡ true → edition .job ≡ p .terms .edition .job → numberOf a ≢ 12) → (numberOf a ≡ 12) ↔ ((soundOf p ≡ true) × (edition .job ≢ p .terms .edition .job))
+  at-12 a unsound other same = (from, λ h. ap numberOf (other (h .0) (h .1)))
+    where
+      from : numberOf a ≡ 12 → (soundOf p ≡ true) × (edition .job ≢ p .terms .edition .job)
+      from z =
+          ⊎-elim
+          (λ (e : soundOf p ≡ true). (e, λ j. same e j z))
+          (λ (e : soundOf p ≡ false). let nine : numberOf a ≡ 9 = ap numberOf (unsound e) in let no : ⊥ = omega arith in absurd no)
+          (either (soundOf p))
+
+pub piece-12 : (p : Place) (label : Label) (n : ℕ) (exact : Bool)
+    → (numberOf (pieceAnswer p label n exact) ≡ 12) ↔ ((soundOf p ≡ true) × (label .edition .job ≢ p .terms .edition .job))
+unfolding pieceAnswer needOf
+piece-12 p label n exact =
+    at-12 p (label .edition) (pieceAnswer p label n exact)
+    (λ e. unsound-piece p e label n exact)
+    (λ e other. rw e (other-job (label .edition) (p .terms .edition) _ other))
+    (λ e same. piece-beyond 12 (omega arith) p label n exact (λ rest. same-job (label .edition) (p .terms .edition) rest same) e)
+
+pub close-12 : (p : Place) (edition : Edition) (wanted tag : ℕ)
+    → (numberOf (closeAnswer p edition wanted tag) ≡ 12) ↔ ((soundOf p ≡ true) × (edition .job ≢ p .terms .edition .job))
+unfolding closeAnswer needOf
+close-12 p edition wanted tag =
+    at-12 p edition (closeAnswer p edition wanted tag)
+    (λ e. unsound-close p e edition wanted tag)
+    (λ e other. rw e (other-job edition (p .terms .edition) _ other))
+    (λ e same. close-beyond 12 (omega arith) p edition wanted tag (λ rest. same-job edition (p .terms .edition) rest same) e)
 
 -- a closed place is not sound
 closed-at : (s : Standing) (p : Place) → s ≡ Closed → soundAt s p ≡ false

@@ -5,14 +5,14 @@ use mathlib.Core.Bool.{Bool, true, false, false≢true}
 use mathlib.Core.Logic.{⊎-elim, _≢_}
 use Prim.Native.Nat.{ℕ, _≤_}
 use native.Mathlib.Omega.{arith}
-use borrow.Author.Tests.{eq-eqb, eqb-true}
+use borrow.Author.Tests.{eq-eqb, ne-eqb, eqb-true}
 use lib.Dec.{eqb}
 use lib.ListN.{length}
 use Rattle.norx.specs.Norx.{bytesOf}
-use Rattle.norx.specs.Front.{front, frontBytes}
-use Rattle.norx.proofs.Bytes.{Bytes, bytes-bytesOf}
+use Rattle.norx.specs.Front.{eightBytes, front, frontBytes}
+use Rattle.norx.proofs.Bytes.{Bytes, bytes-append, bytes-bytesOf}
 use Rattle.answers.specs.declared.Answer.{Answer}
-use Rattle.answers.specs.declared.Answer.the-variants.{Done, OtherRevision}
+use Rattle.answers.specs.declared.Answer.the-variants.{Done, OtherRevision, OtherJob}
 use Rattle.answers.specs.Answers.{numberOf, doneOf, needOf}
 use Rattle.answers.proofs.Tests.{either, cond-true, cond-false}
 use Rattle.answers.proofs.Chain.{link, passed, link-not}
@@ -43,25 +43,45 @@ module _ (given own : Edition) (rest : Answer) where
   pub edition-same : doneOf (editionLink given own rest) ≡ true → given ≡ own
   unfolding ofEdition
   edition-same h =
-      let revisions : given .revision ≡ own .revision = eqb-true (given .revision) (own .revision) (passed _ _ _ refl (each-passed h .0) .0) in
-      λ i. record { revision = revisions i }
+      let job = passed _ _ _ refl (each-passed h .0) in
+      let jobs : given .job ≡ own .job = eqb-true (given .job) (own .job) (job .0) in
+      let revisions : given .revision ≡ own .revision = eqb-true (given .revision) (own .revision) (passed _ _ _ refl (job .1) .0) in
+      λ i. record { job = jobs i; revision = revisions i }
 
   -- an edition is never answered 9 or 10
   pub edition-not : (n : ℕ) → 9 ≤ n → n ≤ 10 → numberOf rest ≢ n → numberOf (editionLink given own rest) ≢ n
   unfolding editionLink ofEdition
   edition-not n least most h =
       link-not n (doneOf (ofEdition given own)) (ofEdition given own) rest
-      (link-not n (eqb (given .revision) (own .revision)) OtherRevision Done (λ e. omega arith) (λ e. omega arith)) h
+      (link-not n (eqb (given .job) (own .job)) OtherJob _ (λ e. omega arith)
+      (link-not n (eqb (given .revision) (own .revision)) OtherRevision Done (λ e. omega arith) (λ e. omega arith))) h
+
+  -- another job is answered 12, whatever its revision is and whatever follows
+  pub other-job : given .job ≢ own .job → editionLink given own rest ≡ OtherJob
+  unfolding editionLink ofEdition needOf
+  other-job h = let apart : eqb (given .job) (own .job) ≡ false = ne-eqb (given .job) (own .job) h in rw apart
+
+  -- and the same job never
+  pub same-job : given .job ≡ own .job → numberOf rest ≢ 12 → numberOf (editionLink given own rest) ≢ 12
+  unfolding editionLink ofEdition needOf
+  same-job h g =
+      let same : eqb (given .job) (own .job) ≡ true = eq-eqb (given .job) (own .job) h in
+      rw same
+      (link-not 12 (doneOf (needOf (eqb (given .revision) (own .revision)) OtherRevision Done)) (needOf (eqb (given .revision) (own .revision)) OtherRevision Done) rest
+      (link-not 12 (eqb (given .revision) (own .revision)) OtherRevision Done (λ e. omega arith) (λ e. omega arith)) g)
 
 -- a session's own edition is not refused
 pub edition-own : (E : Edition) (rest : Answer) → editionLink E E rest ≡ rest
 unfolding editionLink ofEdition needOf
-edition-own E rest = let same : eqb (E .revision) (E .revision) ≡ true = eq-eqb (E .revision) (E .revision) refl in rw same
+edition-own E rest =
+    let job : eqb (E .job) (E .job) ≡ true = eq-eqb (E .job) (E .job) refl in
+    let revision : eqb (E .revision) (E .revision) ≡ true = eq-eqb (E .revision) (E .revision) refl in
+    rw (job, revision)
 
 pub front-long : (E : Edition) → length (frontOf E) ≡ frontBytes
-unfolding frontOf front bytesOf
+unfolding frontOf front eightBytes bytesOf
 front-long E = refl
 
 pub front-bytes : (E : Edition) → Bytes (frontOf E)
-unfolding frontOf front
-front-bytes E = bytes-bytesOf frontBytes (E .revision)
+unfolding frontOf front eightBytes
+front-bytes E = bytes-append (eightBytes (E .job)) (eightBytes (E .revision)) (bytes-bytesOf 8 (E .job)) (bytes-bytesOf 8 (E .revision))

@@ -100,7 +100,7 @@ soundOf p = soundAt (p .standing) p
 unfoldable pub startAnswer : ℕ → Terms → ℕ → ℕ → Answer
 startAnswer row T key nonce = needOf (roundsOk (T .rounds)) RoundsNumber (needOf (lengthsOk row key nonce) KeyLength Done)
 
--- piece: 9, 6, 7, 8, 4, 5; `exact` says that the output has the exact length
+-- piece: 9, 12, 6, 7, 8, 4, 5; `exact` says that the output has the exact length
 unfoldable pub pieceAnswer : Place → Label → ℕ → Bool → Answer
 pieceAnswer p label n exact =
     needOf (soundOf p) NotSound
@@ -116,7 +116,7 @@ sealExact Note n out = eqb out 0
 sealExact Body n out = eqb out n
 sealExact Trailer n out = eqb out 0
 
--- close: 9, 6, 4, 3, before the tag is looked at; `wanted` is the length of a tag
+-- close: 9, 12, 6, 4, 3, before the tag is looked at; `wanted` is the length of a tag
 unfoldable pub closeAnswer : Place → Edition → ℕ → ℕ → Answer
 closeAnswer p edition wanted tag =
     needOf (soundOf p) NotSound

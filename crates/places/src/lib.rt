@@ -53,7 +53,10 @@ pub struct Place {
 pub fn closed_place() -> Place
     ensures { λ r. ⌜ r ≡ closedPlace ⌝ }
 {
-    let edition = Edition { revision: 0 };
+    let edition = Edition {
+        job: 0,
+        revision: 0,
+    };
     let terms = Terms { rounds: 0, edition };
     Place {
         standing: Standing::Closed,
@@ -192,7 +195,7 @@ pub fn start_answer(row: usize, terms: Terms, key: usize, nonce: usize) -> Answe
     )
 }
 
-// The answer to a piece of n bytes: 9, 6, 7, 8, 4, 5, else 0.
+// The answer to a piece of n bytes: 9, 12, 6, 7, 8, 4, 5, else 0.
 pub fn piece_answer(p: Place, label: Label, n: usize, exact: bool) -> Answer
     ensures { λ r. ⌜ r ≡ pieceAnswer p label n exact ⌝ }
 {
@@ -224,7 +227,7 @@ pub fn piece_answer(p: Place, label: Label, n: usize, exact: bool) -> Answer
     )
 }
 
-// The answer to a close before the tag is looked at: 9, 6, 4, 3, else 0. wanted is the length of a tag.
+// The answer to a close before the tag is looked at: 9, 12, 6, 4, 3, else 0. wanted is the length of a tag.
 pub fn close_answer(p: Place, edition: Edition, wanted: usize, tag: usize) -> Answer
     ensures { λ r. ⌜ r ≡ closeAnswer p edition wanted tag ⌝ }
 {

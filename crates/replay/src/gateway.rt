@@ -1,20 +1,21 @@
 // The gateway: each call of a checking session, printed on a line with its answer.
 use crate::job::KEY;
-use crate::job::edition;
 use crate::job::label;
 use crate::job::terms;
 use crate::told::say;
 use crate::told::say_answer;
+use crate::told::say_edition;
 use crate::told::say_number;
 use crate::told::say_part;
 use places::Part;
+use places::terms::Edition;
 use session64::check::Checking;
 use session64::check::CheckingStep;
 
-pub(crate) fn start(nonce: &[u8], revision: u64) -> Checking {
-    let step = Checking::start(&KEY, nonce, terms(revision));
+pub(crate) fn start(nonce: &[u8], edition: Edition) -> Checking {
+    let step = Checking::start(&KEY, nonce, terms(edition));
     say(b"  start a session for ");
-    say_number(revision);
+    say_edition(edition);
     let answer = step.answer;
     say_answer(answer);
     step.session
@@ -22,15 +23,15 @@ pub(crate) fn start(nonce: &[u8], revision: u64) -> Checking {
 
 pub(crate) fn piece(
     s: Checking,
-    revision: u64,
+    edition: Edition,
     part: Part,
     offset: usize,
     bytes: &[u8],
     name: &[u8],
 ) -> Checking {
-    let step = s.piece(label(revision, part, offset), bytes);
+    let step = s.piece(label(edition, part, offset), bytes);
     say(b"  ");
-    say_number(revision);
+    say_edition(edition);
     say(b", ");
     say_part(part);
     say(b" from ");
@@ -42,10 +43,10 @@ pub(crate) fn piece(
     step.session
 }
 
-pub(crate) fn close(s: Checking, revision: u64, tag: &[u8], name: &[u8]) -> CheckingStep {
-    let step = s.close(edition(revision), tag);
+pub(crate) fn close(s: Checking, edition: Edition, tag: &[u8], name: &[u8]) -> CheckingStep {
+    let step = s.close(edition, tag);
     say(b"  close under ");
-    say_number(revision);
+    say_edition(edition);
     say(b", ");
     say(name);
     let answer = step.answer;

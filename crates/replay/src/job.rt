@@ -1,8 +1,18 @@
-// The job of tool 4 in two revisions of one length: in revision 12 both passes are less deep, and faster.
+// The job of tool 4, which is job 7, and its revisions 11 and 12, of one length: in 12 both passes are less deep, and faster.
 use places::Label;
 use places::Part;
 use places::terms::Edition;
 use places::terms::Terms;
+
+pub(crate) const ELEVEN: Edition = Edition {
+    job: 7,
+    revision: 11,
+};
+
+pub(crate) const TWELVE: Edition = Edition {
+    job: 7,
+    revision: 12,
+};
 
 pub(crate) const OLD: [u8; 48] = *b"T4 M6\nG1 Z-6.0 F300\nX80\nG1 Z-9.5 F120\nX0 Y0\nM30\n";
 
@@ -32,21 +42,14 @@ pub(crate) fn second_half(text: &[u8]) -> &[u8] {
     &text[half..]
 }
 
-// A session, a piece and a close of a revision: what each of them says of it.
-pub(crate) fn edition(revision: u64) -> Edition {
-    Edition { revision }
-}
-
-pub(crate) fn terms(revision: u64) -> Terms {
-    let edition = edition(revision);
+pub(crate) fn terms(edition: Edition) -> Terms {
     Terms {
         rounds: ROUNDS,
         edition,
     }
 }
 
-pub(crate) fn label(revision: u64, part: Part, offset: usize) -> Label {
-    let edition = edition(revision);
+pub(crate) fn label(edition: Edition, part: Part, offset: usize) -> Label {
     Label {
         edition,
         part,

@@ -3,6 +3,7 @@ use crate::gateway::close;
 use crate::gateway::piece;
 use crate::gateway::say_accepted;
 use crate::gateway::start;
+use crate::job::ELEVEN;
 use crate::job::HALF;
 use crate::job::NEW;
 use crate::job::NEW_NONCE;
@@ -10,6 +11,7 @@ use crate::job::NOTE;
 use crate::job::OLD;
 use crate::job::OLD_NONCE;
 use crate::job::TRAILER;
+use crate::job::TWELVE;
 use crate::job::first_half;
 use crate::job::second_half;
 use crate::old_seal::checksum;
@@ -23,20 +25,23 @@ pub(crate) fn show_job() {
     say(b"Tool 4 ran the first half of revision 11 and the second half of revision 12,\n");
     say(b"and the seal of that day said good. The same day with NORX 3.0 sessions, at\n");
     say(b"64-bit words and 4 rounds:\n\n");
-    say(b"The job; / ends a line. Revision 12 cuts less deep (Z) and faster (F).\n  11: ");
+    say(b"The job; / ends a line, and 7/12 is revision 12 of job 7, which cuts less deep (Z)\n");
+    say(b"and faster (F) than 7/11.\n  7/11: ");
     say_lines(&OLD);
-    say(b"\n  12: ");
+    say(b"\n  7/12: ");
     say_lines(&NEW);
     say(b"\nThe office seals both, each under its own nonce. The answer 0 is done.\n");
 }
 
 pub(crate) fn first_fetch(old_text: &[u8]) {
     let old_first = first_half(old_text);
-    say(b"\nThe gateway fetches 11. A piece has a revision, a part, an offset and bytes.\n");
-    let s = start(&OLD_NONCE, 11);
-    let s = piece(s, 11, Part::Note, 0, &NOTE, b"the note");
-    piece(s, 11, Part::Body, 0, old_first, b"first half of 11");
-    say(b"The connection is lost, and the floor publishes 12. A new session:\n");
+    say(
+        b"\nThe gateway fetches 7/11. A piece has job and revision, a part, an offset and bytes.\n",
+    );
+    let s = start(&OLD_NONCE, ELEVEN);
+    let s = piece(s, ELEVEN, Part::Note, 0, &NOTE, b"the note");
+    piece(s, ELEVEN, Part::Body, 0, old_first, b"first half of 11");
+    say(b"The connection is lost, and the floor publishes 7/12. A new session:\n");
 }
 
 // The retries are refused, and the honest revision 12 goes on; whether it passes.
@@ -44,19 +49,26 @@ pub(crate) fn second_fetch(old_text: &[u8], text: &[u8], tag: &[u8]) -> bool {
     let old_second = second_half(old_text);
     let first = first_half(text);
     let second = second_half(text);
-    let s = start(&NEW_NONCE, 12);
-    let s = piece(s, 12, Part::Note, 0, &NOTE, b"the note");
+    let s = start(&NEW_NONCE, TWELVE);
+    let s = piece(s, TWELVE, Part::Note, 0, &NOTE, b"the note");
     say(b"The retry under the old revision, then from the old offset:\n");
-    let s = piece(s, 11, Part::Body, HALF, old_second, b"second half of 11");
-    let s = piece(s, 12, Part::Body, HALF, second, b"second half of 12");
+    let s = piece(
+        s,
+        ELEVEN,
+        Part::Body,
+        HALF,
+        old_second,
+        b"second half of 11",
+    );
+    let s = piece(s, TWELVE, Part::Body, HALF, second, b"second half of 12");
     say(b"The fetch begins anew, and a note piece comes late:\n");
-    let s = piece(s, 12, Part::Body, 0, first, b"first half of 12");
-    let s = piece(s, 12, Part::Note, 0, &NOTE, b"the note");
+    let s = piece(s, TWELVE, Part::Body, 0, first, b"first half of 12");
+    let s = piece(s, TWELVE, Part::Note, 0, &NOTE, b"the note");
     say(b"Accepted so far, and nothing of what was refused: ");
     say_accepted(s);
-    let s = piece(s, 12, Part::Body, HALF, second, b"second half of 12");
-    let s = piece(s, 12, Part::Trailer, 0, &TRAILER, b"the trailer");
-    let step = close(s, 12, tag, b"the tag of 12");
+    let s = piece(s, TWELVE, Part::Body, HALF, second, b"second half of 12");
+    let s = piece(s, TWELVE, Part::Trailer, 0, &TRAILER, b"the trailer");
+    let step = close(s, TWELVE, tag, b"the tag of 12");
     let answer = step.answer;
     done(answer)
 }
@@ -77,19 +89,26 @@ pub(crate) fn look_at_pieces() {
 pub(crate) fn mixed(old_text: &[u8], old_tag: &[u8], text: &[u8], tag: &[u8]) -> bool {
     let old_first = first_half(old_text);
     let second = second_half(text);
-    say(b"A session for 12, where each piece says that it is of 12:\n");
-    let s = start(&NEW_NONCE, 12);
-    let s = piece(s, 12, Part::Note, 0, &NOTE, b"the note");
-    let s = piece(s, 12, Part::Body, 0, old_first, b"first half of 11");
-    let s = piece(s, 12, Part::Body, HALF, second, b"second half of 12");
-    let s = piece(s, 12, Part::Trailer, 0, &TRAILER, b"the trailer");
-    let with_new = close(s, 12, tag, b"the tag of 12");
+    say(b"A session for 7/12, where each piece says that it is of 7/12:\n");
+    let s = start(&NEW_NONCE, TWELVE);
+    let s = piece(s, TWELVE, Part::Note, 0, &NOTE, b"the note");
+    let s = piece(s, TWELVE, Part::Body, 0, old_first, b"first half of 11");
+    let s = piece(s, TWELVE, Part::Body, HALF, second, b"second half of 12");
+    let s = piece(s, TWELVE, Part::Trailer, 0, &TRAILER, b"the trailer");
+    let with_new = close(s, TWELVE, tag, b"the tag of 12");
     let new_answer = with_new.answer;
     say(b"A copy of it from before the close, with the other tag, and one piece more:\n");
-    let with_old = close(s, 12, old_tag, b"the tag of 11");
+    let with_old = close(s, TWELVE, old_tag, b"the tag of 11");
     let old_answer = with_old.answer;
     let closed = with_old.session;
-    piece(closed, 12, Part::Body, HALF, second, b"second half of 12");
+    piece(
+        closed,
+        TWELVE,
+        Part::Body,
+        HALF,
+        second,
+        b"second half of 12",
+    );
     done(new_answer) | done(old_answer)
 }
 

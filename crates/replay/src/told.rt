@@ -1,8 +1,9 @@
-// What is printed: texts, numbers, parts, and the words of an answer.
+// What is printed: texts, numbers, editions, parts, and the words of an answer.
 use answers::Answer;
 use answers::number;
 use libc::STDOUT_FILENO;
 use places::Part;
+use places::terms::Edition;
 
 pub(crate) fn say(text: &[u8]) {
     io::write_all(STDOUT_FILENO, text);
@@ -10,6 +11,13 @@ pub(crate) fn say(text: &[u8]) {
 
 pub(crate) fn say_number(n: u64) {
     io::print_decimal(STDOUT_FILENO, n);
+}
+
+// 7/12 is revision 12 of job 7.
+pub(crate) fn say_edition(edition: Edition) {
+    say_number(edition.job);
+    say(b"/");
+    say_number(edition.revision);
 }
 
 // A text on one line: "/" stands for the end of each of its lines.
@@ -61,5 +69,6 @@ fn say_meaning(answer: Answer) {
         Answer::NotSound => say(b"refused: session closed or not sound"),
         Answer::TagDiffers => say(b"refused: the tag differs"),
         Answer::WidthNumber => say(b"refused: the width is not 32 or 64"),
+        Answer::OtherJob => say(b"refused: not the session's job"),
     }
 }

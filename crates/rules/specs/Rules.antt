@@ -16,7 +16,7 @@ longestBody = 16777216
 abbrev pub longestTrailer : ℕ
 longestTrailer = longestHeader
 
--- in a session the note is 0 to 65528, because the front stands before it
+-- in a session the note is 0 to 65,520, because the front stands before it
 abbrev pub longestNote : ℕ
 longestNote = longestHeader - frontBytes
 

@@ -14,9 +14,9 @@ pub const LONGEST_BODY: usize = 16777216;
 pub const LONGEST_TRAILER: usize = LONGEST_HEADER;
 
 // The bytes that stand in front of the note in the header of a session.
-pub const FRONT: usize = 8;
+pub const FRONT: usize = 16;
 
-// The longest note, 65528: what the front leaves of a header.
+// The longest note, 65520: what the front leaves of a header.
 pub const LONGEST_NOTE: usize = LONGEST_HEADER - FRONT;
 
 // The marks of header, body, trailer and tag.

@@ -18,7 +18,7 @@ use Rattle.session.specs.Sessions.{sealing, checking, Kind, tagLength, c
 use Rattle.session.specs.Offered.{Close, Call, close, numberTo, joined, heldBy}
 use Rattle.session.specs.Promises.{StillOpen, begun, sessionAfter, OwnClose, TakesPieces, ClosesUnderItsOwn, OpenUntilClosed, StartsWithinLimits, OneSession, Alike, WithinOneCall, OneSealing, OneOpening, Promised}
 use Rattle.session.proofs.Pieces.{afterAll}
-use Rattle.session.proofs.Refused.{Lawful, closeTo, no-verdict, refuses-unsound, refusal-changes-nothing, no-piece-answers-10, close-ends, closed-refuses}
+use Rattle.session.proofs.Refused.{Lawful, closeTo, no-verdict, refuses-unsound, refuses-other-jobs, refusal-changes-nothing, no-piece-answers-10, close-ends, closed-refuses}
 use Rattle.session.proofs.Calls.{piecesOf, AsPieces, as-pieces, still-unclosed, without-refused}
 use Rattle.session.proofs.Begun.{not-started, start-limits-of, session-is, stands, alike-is}
 use Rattle.session.proofs.Closing.{tag-length, close-own, own-closes}
@@ -111,6 +111,7 @@ module _ (K : Kind) (L : Lawful K) where
   promised = record {
     starts = starts;
     unsound = refuses-unsound K L;
+    other-jobs = refuses-other-jobs K L;
     refusals = refusal-changes-nothing K L;
     no-piece-10 = no-piece-answers-10 K L;
     close-ends = close-ends K L;

@@ -1,8 +1,8 @@
--- A refused call changes nothing, of any session; a close that is not refused gives back the closed session; 9 is answered exactly where a session is not sound, and 10 by the close of a check alone.
+-- A refused call changes nothing, of any session; a close that is not refused gives back the closed session; 9 is answered exactly where a session is not sound, 12 exactly where it is and the job is another, and 10 by the close of a check alone.
 -- Assumes nothing.
 use mathlib.Core.Path.{_≡_, refl, sym, ap, ap₂, _∙_}
 use mathlib.Core.Bool.{Bool, true, false, false≢true}
-use mathlib.Core.Logic.{_⊎_, inl, inr, ⊎-elim, _≢_}
+use mathlib.Core.Logic.{_⊎_, inl, inr, ⊎-elim, _↔_, _≢_}
 use mathlib.Core.List.{List, [], _∷_, _++_}
 use Prim.Native.Nat.{ℕ}
 use native.Mathlib.Omega.{arith}
@@ -18,12 +18,12 @@ use Rattle.places.specs.declared.terms.Edition.{Edition}
 use Rattle.places.specs.declared.Label.{Label}
 use Rattle.places.specs.declared.Place.{Place}
 use Rattle.places.specs.Places.{soundOf}
-use Rattle.places.proofs.Accepts.{piece-not, close-not, unsound-piece, unsound-close, piece-never-10, close-never-10, closed-unsound}
+use Rattle.places.proofs.Accepts.{piece-not, close-not, piece-12, close-12, unsound-piece, unsound-close, piece-never-10, close-never-10, closed-unsound}
 use Rattle.session.specs.Sessions.{Way, sealing, checking, verdictOf, exactOf, Kind, closedOf, tagLength, ownTag, pieceAnswerOf, pieceOf, pieceOut, closeAnswerOf, closeOf, closeTag}
 use Rattle.session.specs.Offered.{Piece, Close, close, pieceNumber, closeNumber, afterCall, isAccepted, wrote}
-use Rattle.session.specs.Refusals.{RefusesUnsound, RefusalChangesNothing, CloseEnds, ClosedRefuses, NoPieceAnswers10, NoCloseAnswers10}
+use Rattle.session.specs.Refusals.{RefusesUnsound, RefusesOtherJobs, RefusalChangesNothing, CloseEnds, ClosedRefuses, NoPieceAnswers10, NoCloseAnswers10}
 use Rattle.session.proofs.Pieces.{afterPiece, afterAll, accepted, wroteAll}
-use Rattle.session.proofs.Sound.{sound-to, not-sound}
+use Rattle.session.proofs.Sound.{sound-from, sound-to, not-sound}
 
 -- a kind is lawful where what it puts together it takes apart again, and its tag is the width's
 pub record Lawful (K : Kind) : Type 0 where
@@ -199,6 +199,46 @@ module _ (K : Kind) (L : Lawful K) where
         (λ e sound. sound-piece-9 s label x out (sound-to (K .place s) sound) e, λ never. unsound-piece-9 s label x out (not-sound (K .place s) never));
     closes = λ s edition tag.
         (λ e sound. sound-close-9 s edition tag (sound-to (K .place s) sound) e, λ never. unsound-close-9 s edition tag (not-sound (K .place s) never));
+  }
+
+  -- ---- 12
+
+  piece-to-12 : (s : K .Session) (label : Label) (x out : List ℕ)
+      → (pieceNumber K s label x out ≡ 12) ↔ ((soundOf (K .place s) ≡ true) × (label .edition .job ≢ K .place s .terms .edition .job))
+  unfolding pieceAnswerOf
+  piece-to-12 s label x out =
+      let by-numbers = piece-12 (K .place s) label (length x) (exactOf (K .way) (label .part) (length x) (length out)) in
+      (λ z. by-numbers .0 (sym (ap numberOf (piece-answered s label x out)) ∙ z), λ h. ap numberOf (piece-answered s label x out) ∙ by-numbers .1 h)
+
+  close-to-12 : (s : K .Session) (edition : Edition) (tag : List ℕ)
+      → (closeNumber K s edition tag ≡ 12) ↔ ((soundOf (K .place s) ≡ true) × (edition .job ≢ K .place s .terms .edition .job))
+  unfolding closeAnswerOf
+  close-to-12 s edition tag = (from, to)
+    where
+      by-numbers : (numberOf (closeAnswerOf K s edition tag) ≡ 12) ↔ ((soundOf (K .place s) ≡ true) × (edition .job ≢ K .place s .terms .edition .job))
+      by-numbers = close-12 (K .place s) edition (tagLength K) (length tag)
+
+      from : closeNumber K s edition tag ≡ 12 → (soundOf (K .place s) ≡ true) × (edition .job ≢ K .place s .terms .edition .job)
+      from z =
+          ⊎-elim
+          (λ (e : doneOf (closeAnswerOf K s edition tag) ≡ true). absurd (⊎-elim (λ y. omega arith) (λ y. omega arith) (ended-number s edition tag e)))
+          (λ (e : doneOf (closeAnswerOf K s edition tag) ≡ false). by-numbers .0 (sym (ap numberOf (close-refused s edition tag e .0)) ∙ z))
+          (either (doneOf (closeAnswerOf K s edition tag)))
+
+      to : (soundOf (K .place s) ≡ true) × (edition .job ≢ K .place s .terms .edition .job) → closeNumber K s edition tag ≡ 12
+      to h =
+          let twelve : numberOf (closeAnswerOf K s edition tag) ≡ 12 = by-numbers .1 h in
+          let refused : doneOf (closeAnswerOf K s edition tag) ≡ false = ne-eqb (numberOf (closeAnswerOf K s edition tag)) 0 (λ z. omega arith) in
+          ap numberOf (close-refused s edition tag refused .0) ∙ twelve
+
+  pub refuses-other-jobs : RefusesOtherJobs K
+  refuses-other-jobs = record {
+    pieces = λ s label x out.
+        let found = piece-to-12 s label x out in
+        (λ z. (sound-from (K .place s) (found .0 z .0), found .0 z .1), λ h. found .1 (sound-to (K .place s) (h .0), h .1));
+    closes = λ s edition tag.
+        let found = close-to-12 s edition tag in
+        (λ z. (sound-from (K .place s) (found .0 z .0), found .0 z .1), λ h. found .1 (sound-to (K .place s) (h .0), h .1));
   }
 
   pub closed-refuses : ClosedRefuses K

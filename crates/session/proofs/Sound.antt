@@ -44,7 +44,7 @@ module _ (p : Place) where
         unreached = unreached-from part p (first .1);
       }
 
-  sound-from : soundOf p ≡ true → Sound p
+  pub sound-from : soundOf p ≡ true → Sound p
   unfolding soundOf
   sound-from e = by-standing (p .standing) refl e e
 

@@ -18,7 +18,7 @@ use Rattle.places.specs.declared.Standing.the-variants.{Closed, Open}
 use Rattle.places.specs.Places.{rankOf}
 use Rattle.session.specs.Sessions.{Way, sealing, checking, Kind, closedOf, startOf, closeTag}
 use Rattle.session.specs.Offered.{Piece, Close, Call, piece, close, numberTo, afterCall, afterCalls, acceptedIn, wroteIn, joined, lastPart, headerOf, heldBy}
-use Rattle.session.specs.Refusals.{most, RefusesUnsound, RefusalChangesNothing, CloseEnds, ClosedRefuses, NoPieceAnswers10}
+use Rattle.session.specs.Refusals.{most, RefusesUnsound, RefusesOtherJobs, RefusalChangesNothing, CloseEnds, ClosedRefuses, NoPieceAnswers10}
 
 -- ---- A start
 
@@ -172,6 +172,7 @@ module _ (K : Kind) where
 pub record Promised (K : Kind) : Type 0 where
   pub starts : StartsWithinLimits K
   pub unsound : RefusesUnsound K
+  pub other-jobs : RefusesOtherJobs K
   pub refusals : RefusalChangesNothing K
   pub no-piece-10 : NoPieceAnswers10 K
   pub close-ends : CloseEnds K

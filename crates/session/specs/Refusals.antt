@@ -1,4 +1,4 @@
--- Demand 1 of a session, of any session at all and any call on it, in numbers: when it is not sound, what a refusal leaves, and what a close leaves.
+-- Demand 1 of a session, of any session at all and any call on it, in numbers: when it is not sound, when a call is of another job, what a refusal leaves, and what a close leaves.
 -- Assumes nothing.
 use Prim.Native.Nat.{ℕ, _≤_}
 use mathlib.Core.Path.{_≡_}
@@ -15,7 +15,7 @@ use Rattle.session.specs.Offered.{pieceNumber, closeNumber}
 
 -- the most bytes of a part in a session
 abbrev pub most : Part → ℕ
-most Note = 65528
+most Note = 65520
 most Body = 16777216
 most Trailer = 65536
 
@@ -40,6 +40,13 @@ module _ (K : Kind) where
   pub record RefusesUnsound : Type 0 where
     pub pieces : (s : K .Session) (label : Label) (x out : List ℕ) → (pieceNumber K s label x out ≡ 9) ↔ (Sound (K .place s) → ⊥)
     pub closes : (s : K .Session) (edition : Edition) (tag : List ℕ) → (closeNumber K s edition tag ≡ 9) ↔ (Sound (K .place s) → ⊥)
+
+  -- 12 exactly where a sound session is offered a piece of another job, or is to be closed under one, whatever else is wrong with the call
+  pub record RefusesOtherJobs : Type 0 where
+    pub pieces : (s : K .Session) (label : Label) (x out : List ℕ)
+        → (pieceNumber K s label x out ≡ 12) ↔ (Sound (K .place s) × (label .edition .job ≢ K .place s .terms .edition .job))
+    pub closes : (s : K .Session) (edition : Edition) (tag : List ℕ)
+        → (closeNumber K s edition tag ≡ 12) ↔ (Sound (K .place s) × (edition .job ≢ K .place s .terms .edition .job))
 
   -- a piece that is not answered 0, and a close that is answered neither 0 nor 10, give back the session and the buffer as they were
   -- (a checking session is lent nothing that it could write to)

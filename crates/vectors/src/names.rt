@@ -14,19 +14,19 @@ const SEAL: Row = *b"seal      WWBBBBBN  ";
 
 const OPEN: Row = *b"open      WWBBBBBN  ";
 
-const SEALING: Row = *b"sealing   WWBBR     ";
+const SEALING: Row = *b"sealing   WWBBRR    ";
 
-const CHECKING: Row = *b"checking  WWBBR     ";
+const CHECKING: Row = *b"checking  WWBBRR    ";
 
-const PIECE: Row = *b"piece     RPRBN     ";
+const PIECE: Row = *b"piece     RRPRBN    ";
 
-const CLOSE: Row = *b"close     RN        ";
+const CLOSE: Row = *b"close     RRN       ";
 
-const CHECK: Row = *b"check     RB        ";
+const CHECK: Row = *b"check     RRB       ";
 
 const SHOW: Row = *b"show                ";
 
-const PUT: Row = *b"put       RRRWRS    ";
+const PUT: Row = *b"put       RRRWRRS   ";
 
 const CLOSED: Row = *b"closed              ";
 

@@ -48,7 +48,7 @@ fn tell_words(held: Held) -> bool {
     written
 }
 
-// NOTE BODY TRAILER L REVISION STANDING.
+// NOTE BODY TRAILER L JOB REVISION STANDING.
 pub(crate) fn put(a: Arguments, mut run: Run) -> Run {
     let words = a.words;
     let held = run.held;

@@ -49,6 +49,7 @@ pub(crate) fn place(p: Place) -> bool {
         & next_number(p.body)
         & next_number(p.trailer)
         & next_number(p.terms.rounds as usize)
+        & next_number(p.terms.edition.job as usize)
         & next_number(p.terms.edition.revision as usize)
         & byte(b' ')
         & io::write_all(STDOUT_FILENO, name(&row))

@@ -13,7 +13,7 @@ abbrev made : ℕ → Edition → Part → Label
 made offset e p = record { edition = e; part = p; offset = offset }
 
 returns : tie.Need-returns
-returns c = ap₂ (made (c .before .before .args .a .third)) (c .before .edition .ensures) (c .part .ensures)
+returns c = ap₂ (made (c .before .before .args .a .fourth)) (c .before .edition .ensures) (c .part .ensures)
 
 pub label-spec : {M : Type 1} → statement M
 label-spec = tie.close (tie.spec (λ c κs. search needs) (λ c κs. search needs) returns)

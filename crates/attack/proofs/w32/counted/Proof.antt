@@ -6,10 +6,10 @@ use Rattle.attack.proofs.w32.counted.Statement.{statement}
 use Rattle.attack.proofs.w32.counted.Tie as tie
 
 abbrev Inv-loop : tie.InvT-loop
-Inv-loop name way old new t₀ x₀ count n₀ t x n = n ≤ count
+Inv-loop name way e own other t₀ x₀ count n₀ t x n = n ≤ count
 
 abbrev μ-loop : tie.MeasureT-loop
-μ-loop name way old new t₀ x₀ count n₀ t x n = count - n
+μ-loop name way e own other t₀ x₀ count n₀ t x n = count - n
 
 pub counted-spec : {M : Type 1} → statement M
 counted-spec =
@@ -20,6 +20,7 @@ counted-spec =
     (λ c κs. search needs)
     (λ c κs. search needs)
     (λ c. search needs)
+    (λ c κs. search needs)
     (λ c κs. search needs)
     (λ c κs. search needs)
     (λ c κs. search needs)
