@@ -26,13 +26,18 @@
  *    4  header, body or trailer is over its limit        out is unchanged
  *    5  out_len is not the exact length                  out is unchanged
  *   10  the tag differs in any byte                      every byte of out is zero   (norx_open)
- * The numbers 6 to 9 are for sessions and are never given by these calls.
+ * The numbers 6 to 9 and 12 are for sessions and are never given by these calls.
  *
  * SESSIONS
- *   Sealing and checking piece by piece is there for Rattle programs, and not for C. A session for a revision, with a
- *   note, has this header: the revision as eight bytes, little-endian, and then the note (65,528 bytes at most).
- *   What is sealed with that header passes such a check: its pieces are the note, the ciphertext and the trailer, and
- *   its tag the last bytes of the sealed text. And what such a session sealed opens with that header.
+ *   Sealing and checking piece by piece is there for Rattle programs, and not for C. These calls take their header as it
+ *   is given, and know no job and no revision. A session is for one job and one revision of it, and may have a note; its
+ *   header is
+ *     the job number   eight bytes, little-endian
+ *     the revision     eight bytes, little-endian
+ *     the note         0 to 65,520 bytes
+ *   What norx_seal seals with that header passes the check of such a session: its pieces are the note, the ciphertext
+ *   and the trailer, and its tag the last bytes of the sealed text. And what such a session sealed, ciphertext and then
+ *   tag, norx_open opens with that header. README.md has the header as a C function, which the tests compile and run.
  *
  * BUFFERS
  *   A pointer belongs to the length behind it, and must be good for that many bytes; null is for length 0 alone,
@@ -60,7 +65,7 @@
 extern "C" {
 #endif
 
-#define JECZMILOT_VERSION "0.2"
+#define JECZMILOT_VERSION "0.3"
 
 /* The answers. */
 #define JECZMILOT_DONE 0
@@ -84,6 +89,10 @@ extern "C" {
 #define JECZMILOT_HEADER_LIMIT 65536
 #define JECZMILOT_BODY_LIMIT 16777216
 #define JECZMILOT_TRAILER_LIMIT 65536
+
+/* In the header of a session: the bytes of job number and revision, and the most bytes of the note behind them. */
+#define JECZMILOT_FRONT_BYTES 16
+#define JECZMILOT_NOTE_LIMIT 65520
 
 /* Has the compiler warn where an answer is not looked at; empty where it cannot, or where it was defined so before. */
 #ifndef JECZMILOT_LOOK_AT_THE_ANSWER

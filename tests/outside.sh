@@ -57,6 +57,7 @@ try "the README's programs and story" readme tests/readme.sh
 try "beside an independent C code" differential tests/differential.sh
 try "calls from any program" calls tests/calls.sh
 try "sessions beside a model in C" sessions tests/sessions.sh
+try "one call and sessions, both ways" both_ways tests/both_ways.sh
 echo "outside the proof: $passed passed, $failed failed"
 echo "$passed passed, $failed failed" >target/log/outside.out
 [ "$failed" -eq 0 ]

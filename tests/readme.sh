@@ -1,5 +1,5 @@
 #!/bin/sh
-# Builds the C program of the README as it stands there, once with the archive and once against what `make install` puts
+# Builds the C program of the README, its first C code, as it stands there, once with the archive and once against what `make install` puts
 # in place, and compares what it writes with what the README says; the README's story with what the program replay must write;
 # and the README's Rattle code with the program example, which the gate proves and runs:
 #   tests/readme.sh [ARCHIVE]
@@ -9,7 +9,7 @@ set -eu
 . tests/tools.sh
 
 mkdir -p target/tests
-awk '/^```c$/ { on = 1; next } /^```$/ { on = 0 } on' README.md >target/tests/readme.c
+awk '/^```c$/ { on = 1; next } /^```$/ && on { exit } on' README.md >target/tests/readme.c
 awk '/^It writes:$/ { on = 1; next } on && /^    / { print substr($0, 5); seen = 1; next } seen { exit }' README.md >target/tests/readme.txt
 
 # Builds it with the flags given, runs it and compares.

@@ -64,11 +64,27 @@ static void bend(struct maker *m, char form, struct word *word, struct buffer *c
     }
 }
 
+/* Now and then two numbers side by side only change places: a job and its revision, or two counts. */
+static bool exchange_some(struct maker *m, const char *forms, struct word *words)
+{
+    for (size_t i = 0; forms[i] != '\0'; i++)
+        if (forms[i] == 'u' && forms[i + 1] == 'u' && chance(m, 8)) {
+            struct word first = words[i];
+
+            words[i] = words[i + 1];
+            words[i + 1] = first;
+            return true;
+        }
+    return false;
+}
+
 void bend_some(struct maker *m, const char *forms, struct word *words)
 {
     static struct buffer changed[MOST_ARGUMENTS];
     size_t first = prng_below(&m->prng, strlen(forms));
 
+    if (exchange_some(m, forms, words))
+        return;
     for (size_t i = 0; forms[i] != '\0'; i++)
         if (i == first || chance(m, 6))
             bend(m, forms[i], &words[i], &changed[i]);

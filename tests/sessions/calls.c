@@ -63,16 +63,22 @@ static bool answer_one_call(struct model *m, const struct argument *a)
     return true;
 }
 
+/* A job and a revision, which stand side by side wherever they stand. */
+static struct edition edition_at(const struct argument *a)
+{
+    return (struct edition){a[0].number, a[1].number};
+}
+
 static bool answer_start(struct model *m, const struct argument *a)
 {
     write_answer(m, session_start(&m->session, m->verb->kind, (uint32_t)a[0].number, (uint32_t)a[1].number,
-                                  bytes_of(&a[2].bytes), bytes_of(&a[3].bytes), a[4].number));
+                                  bytes_of(&a[2].bytes), bytes_of(&a[3].bytes), edition_at(&a[4])));
     return true;
 }
 
 static bool answer_piece(struct model *m, const struct argument *a)
 {
-    struct piece piece = {a[0].number, (unsigned)a[1].number, a[2].number, bytes_of(&a[3].bytes), a[4].number};
+    struct piece piece = {edition_at(a), (unsigned)a[2].number, a[3].number, bytes_of(&a[4].bytes), a[5].number};
     bool certain = session_is_certain(&m->session);
     uint8_t *out = lend_output(m, piece.out_len);
     uint32_t answer;
@@ -87,12 +93,12 @@ static bool answer_piece(struct model *m, const struct argument *a)
 static bool answer_close(struct model *m, const struct argument *a)
 {
     bool certain = session_is_certain(&m->session);
-    uint8_t *out = lend_output(m, a[1].number);
+    uint8_t *out = lend_output(m, a[2].number);
     uint32_t answer;
 
     if (m->session.kind != m->verb->kind)
         return false;
-    answer = session_close(&m->session, a[0].number, out, m->output.length);
+    answer = session_close(&m->session, edition_at(a), out, m->output.length);
     write_output(m, answer, certain || answer != DONE);
     return true;
 }
@@ -104,7 +110,7 @@ static bool answer_check(struct model *m, const struct argument *a)
 
     if (m->session.kind != m->verb->kind)
         return false;
-    answer = session_check(&m->session, a[0].number, bytes_of(&a[1].bytes));
+    answer = session_check(&m->session, edition_at(a), bytes_of(&a[2].bytes));
     if (!certain && answer == DONE)
         buffer_print(&m->reply, ".");
     else
@@ -135,8 +141,9 @@ static bool answer_show(struct model *m, const struct argument *a)
     write_answer(m, DONE);
     write_words(m, s->joined.width, words, s->words_are_known);
     write_key(m, &s->joined);
-    buffer_print(&m->reply, " %" PRIu64 " %" PRIu64 " %" PRIu64 " %" PRIu32 " %" PRIu64 " %s", n->counts[NOTE],
-                 n->counts[BODY], n->counts[TRAILER], n->rounds, n->revision, standing_names[n->standing]);
+    buffer_print(&m->reply, " %" PRIu64 " %" PRIu64 " %" PRIu64 " %" PRIu32 " %" PRIu64 " %" PRIu64 " %s",
+                 n->counts[NOTE], n->counts[BODY], n->counts[TRAILER], n->rounds, n->edition.job, n->edition.revision,
+                 standing_names[n->standing]);
     return true;
 }
 
@@ -144,8 +151,8 @@ static bool answer_put(struct model *m, const struct argument *a)
 {
     m->session.numbers = (struct numbers){{a[0].number, a[1].number, a[2].number},
                                           (uint32_t)a[3].number,
-                                          a[4].number,
-                                          (unsigned)a[5].number};
+                                          edition_at(&a[4]),
+                                          (unsigned)a[6].number};
     write_answer(m, DONE);
     return true;
 }
@@ -153,9 +160,9 @@ static bool answer_put(struct model *m, const struct argument *a)
 static const struct verb verbs[] = {
     {"constants", "w", SEALING, answer_constants},  {"show", "", SEALING, answer_show},
     {"seal", "iibbbbbn", SEALING, answer_one_call}, {"open", "iibbbbbn", CHECKING, answer_one_call},
-    {"sealing", "wibbu", SEALING, answer_start},    {"checking", "wibbu", CHECKING, answer_start},
-    {"close", "un", SEALING, answer_close},         {"check", "ub", CHECKING, answer_check},
-    {"piece", "upubn", SEALING, answer_piece},      {"put", "uuuius", SEALING, answer_put},
+    {"sealing", "wibbuu", SEALING, answer_start},   {"checking", "wibbuu", CHECKING, answer_start},
+    {"close", "uun", SEALING, answer_close},        {"check", "uub", CHECKING, answer_check},
+    {"piece", "uupubn", SEALING, answer_piece},     {"put", "uuuiuus", SEALING, answer_put},
 };
 
 const struct verb *find_verb(struct bytes name)

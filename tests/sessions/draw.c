@@ -6,8 +6,9 @@ void send_start(struct maker *m, enum kind kind, bool is_bent)
 {
     const struct message *message = &m->job.message;
     size_t tag = tag_length(message->width);
-    struct word words[] = {{message->width, {0}}, {message->rounds, {0}}, {0, {message->key, tag}},
-                           {0, {message->nonce, tag}}, {m->job.revision, {0}}};
+    struct edition edition = m->job.edition;
+    struct word words[] = {{message->width, {0}},      {message->rounds, {0}}, {0, {message->key, tag}},
+                           {0, {message->nonce, tag}}, {edition.job, {0}},     {edition.revision, {0}}};
 
     send_call(m, kind == SEALING ? "sealing" : "checking", words, is_bent);
 }
@@ -54,7 +55,9 @@ void send_piece(struct maker *m, bool is_bent)
     uint64_t offset = s->numbers.counts[part];
     struct bytes cut = next_cut(m, part, offset);
     size_t out_len = part == BODY && s->kind == SEALING ? cut.length : 0;
-    struct word words[] = {{s->numbers.revision, {0}}, {part, {0}}, {offset, {0}}, {0, cut}, {out_len, {0}}};
+    struct edition edition = s->numbers.edition;
+    struct word words[] = {{edition.job, {0}}, {edition.revision, {0}}, {part, {0}},
+                           {offset, {0}},      {0, cut},                {out_len, {0}}};
 
     send_call(m, "piece", words, is_bent);
 }
@@ -64,7 +67,8 @@ void send_close(struct maker *m, bool is_bent)
 {
     const struct session *s = &m->model.session;
     struct bytes tag = job_tag(&m->job);
-    struct word words[] = {{s->numbers.revision, {0}}, {tag.length, tag}};
+    struct edition edition = s->numbers.edition;
+    struct word words[] = {{edition.job, {0}}, {edition.revision, {0}}, {tag.length, tag}};
 
     send_call(m, (s->kind == SEALING) != chance(m, 30) ? "close" : "check", words, is_bent);
 }
@@ -90,7 +94,8 @@ void send_one_call(struct maker *m, bool is_bent)
 static void send_numbers(struct maker *m, const struct numbers *n, bool is_bent)
 {
     struct word words[] = {{n->counts[NOTE], {0}}, {n->counts[BODY], {0}}, {n->counts[TRAILER], {0}},
-                           {n->rounds, {0}},       {n->revision, {0}},     {n->standing, {0}}};
+                           {n->rounds, {0}},       {n->edition.job, {0}},  {n->edition.revision, {0}},
+                           {n->standing, {0}}};
 
     send_call(m, "put", words, is_bent);
 }
@@ -99,7 +104,7 @@ static void send_numbers(struct maker *m, const struct numbers *n, bool is_bent)
 void send_invented(struct maker *m)
 {
     const struct numbers own = m->model.session.numbers;
-    struct numbers numbers = {.rounds = 4, .revision = own.revision};
+    struct numbers numbers = {.rounds = 4, .edition = own.edition};
     unsigned part = (unsigned)prng_below(&m->prng, PARTS);
     uint64_t limit = part_limits[part], some = prng_below(&m->prng, 300);
     bool is_full = chance(m, 2);

@@ -23,17 +23,25 @@ static void fill_part(struct message *message, unsigned part, struct prng *prng)
         prng_fill(prng, bytes->at + bytes->length - length, length);
 }
 
+/* A job's or a revision's number: small, the largest, or any. */
+static uint64_t draw_number(struct prng *prng)
+{
+    uint64_t any = prng_next(prng), small = prng_below(prng, 300);
+
+    return PICK(prng, small, UINT64_MAX, any, any);
+}
+
 void job_make(struct job *job, struct prng *prng)
 {
     struct message *m = &job->message;
-    uint64_t any = prng_next(prng), small = prng_below(prng, 300);
 
     m->width = PICK(prng, 32, 64);
     m->rounds = PICK(prng, 4, 6);
     prng_fill(prng, m->key, sizeof m->key);
     prng_fill(prng, m->nonce, sizeof m->nonce);
-    job->revision = PICK(prng, small, UINT64_MAX, any, any);
-    message_begin(m, job->revision);
+    job->edition.job = draw_number(prng);
+    job->edition.revision = draw_number(prng);
+    message_begin(m, job->edition);
     m->parts[BODY].length = m->parts[TRAILER].length = 0;
     for (unsigned part = 0; part < PARTS; part++)
         fill_part(m, part, prng);
@@ -45,7 +53,7 @@ struct bytes job_part(const struct job *job, enum kind kind, unsigned part)
     struct bytes bytes = bytes_of(&job->message.parts[part]);
 
     if (part == NOTE)
-        return (struct bytes){bytes.at + REVISION_BYTES, bytes.length - REVISION_BYTES};
+        return (struct bytes){bytes.at + FRONT_BYTES, bytes.length - FRONT_BYTES};
     if (part == BODY && kind == CHECKING)
         return (struct bytes){job->sealed.at, bytes.length};
     return bytes;

@@ -11,7 +11,7 @@
 /* Something to seal in a session, and its sealed text. */
 struct job {
     struct message message;
-    uint64_t revision;
+    struct edition edition;
     struct buffer sealed;
 };
 
@@ -20,7 +20,7 @@ size_t draw_length(struct prng *prng, uint32_t width);
 
 void job_make(struct job *job, struct prng *prng);
 
-/* The bytes of a part as a session of this kind gets them, without the revision. */
+/* The bytes of a part as a session of this kind gets them, without the front. */
 struct bytes job_part(const struct job *job, enum kind kind, unsigned part);
 
 struct bytes job_tag(const struct job *job);

@@ -4,20 +4,26 @@
 
 #include "norx.h"
 
-const uint64_t part_limits[PARTS] = {65528, 16777216, 65536};
+const uint64_t part_limits[PARTS] = {65520, 16777216, 65536};
 
 size_t tag_length(uint32_t width)
 {
     return width / 2;
 }
 
-void message_begin(struct message *message, uint64_t revision)
+static void add_number(struct buffer *buffer, uint64_t number)
+{
+    for (int i = 0; i < 8; i++)
+        buffer_fill(buffer, (uint8_t)(number >> 8 * i), 1);
+}
+
+void message_begin(struct message *message, struct edition edition)
 {
     struct buffer *note = &message->parts[NOTE];
 
     note->length = 0;
-    for (int i = 0; i < REVISION_BYTES; i++)
-        buffer_fill(note, (uint8_t)(revision >> 8 * i), 1);
+    add_number(note, edition.job);
+    add_number(note, edition.revision);
 }
 
 void message_seal(const struct message *m, struct buffer *sealed)

@@ -5,17 +5,22 @@
 
 enum { NOTE, BODY, TRAILER, PARTS };
 
-enum { REVISION_BYTES = 8, LONGEST_TAG = 32 };
+enum { FRONT_BYTES = 16, LONGEST_TAG = 32 };
 
 /* The answers, from number 0 on. */
 enum {
     DONE, BAD_KEY_OR_NONCE, BAD_ROUNDS, BAD_TAG_LENGTH, OVER_LIMIT, BAD_OUTPUT, BAD_REVISION, EARLIER_PART, BAD_OFFSET,
-    NOT_SOUND, BAD_TAG, BAD_WIDTH, ANSWERS
+    NOT_SOUND, BAD_TAG, BAD_WIDTH, BAD_JOB, ANSWERS
 };
 
 extern const uint64_t part_limits[PARTS];
 
-/* What a session has; in its note the revision's bytes stand in front. */
+/* What a session is for, and what each of its pieces and its close must bring. */
+struct edition {
+    uint64_t job, revision;
+};
+
+/* What a session has; in its note the bytes of its edition stand in front. */
 struct message {
     uint32_t width, rounds;
     uint8_t key[LONGEST_TAG], nonce[LONGEST_TAG];
@@ -24,8 +29,8 @@ struct message {
 
 size_t tag_length(uint32_t width);
 
-/* Puts the revision's bytes where the note begins. */
-void message_begin(struct message *message, uint64_t revision);
+/* Puts the bytes of the edition where the note begins. */
+void message_begin(struct message *message, struct edition edition);
 
 /* Writes the ciphertext and the tag. */
 void message_seal(const struct message *message, struct buffer *sealed);

@@ -91,7 +91,7 @@ void long_lines(struct buffer *script)
 {
     for (size_t length = LONGEST_LINE - 3; length <= LONGEST_LINE + 3; length++) {
         long_line(script, "#", 'x', length);
-        long_line(script, "piece 1 note 0 ", 'a', length);
+        long_line(script, "piece 7 1 note 0 ", 'a', length);
         long_line(script, "show", ' ', length);
         long_call(script, LONGEST_ARGUMENT, length);
         long_call(script, LONGEST_ARGUMENT + 1 - length % 3, LONGEST_LINE - 10000);

@@ -18,7 +18,7 @@ void session_clear(struct session *s, enum kind kind, uint32_t width)
 }
 
 uint32_t session_start(struct session *s, enum kind kind, uint32_t width, uint32_t rounds, struct bytes key,
-                       struct bytes nonce, uint64_t revision)
+                       struct bytes nonce, struct edition edition)
 {
     session_clear(s, kind, width);
     if (rounds != 4 && rounds != 6)
@@ -28,8 +28,8 @@ uint32_t session_start(struct session *s, enum kind kind, uint32_t width, uint32
     s->joined.rounds = rounds;
     memcpy(s->joined.key, key.at, key.length);
     memcpy(s->joined.nonce, nonce.at, nonce.length);
-    message_begin(&s->joined, revision);
-    s->numbers = s->earned = (struct numbers){.rounds = rounds, .revision = revision, .standing = OPEN_IN_NOTE};
+    message_begin(&s->joined, edition);
+    s->numbers = s->earned = (struct numbers){.rounds = rounds, .edition = edition, .standing = OPEN_IN_NOTE};
     return DONE;
 }
 
@@ -48,7 +48,8 @@ bool session_is_certain(const struct session *s)
     const struct numbers *a = &s->numbers, *b = &s->earned;
 
     return s->words_are_known && memcmp(a->counts, b->counts, sizeof a->counts) == 0 && a->rounds == b->rounds &&
-           a->revision == b->revision && a->standing == b->standing;
+           a->edition.job == b->edition.job && a->edition.revision == b->edition.revision &&
+           a->standing == b->standing;
 }
 
 static uint32_t refuse_piece(const struct session *s, const struct piece *piece)
@@ -57,7 +58,9 @@ static uint32_t refuse_piece(const struct session *s, const struct piece *piece)
 
     if (!numbers_are_sound(n))
         return NOT_SOUND;
-    if (piece->revision != n->revision)
+    if (piece->edition.job != n->edition.job)
+        return BAD_JOB;
+    if (piece->edition.revision != n->edition.revision)
         return BAD_REVISION;
     if (piece->part + 1 < n->standing)
         return EARLIER_PART;
@@ -92,19 +95,23 @@ uint32_t session_piece(struct session *s, const struct piece *piece, uint8_t *ou
 }
 
 /* A count over its limit is not sound, so that 9 comes first and 4 is never given. */
-static uint32_t refuse_close(const struct session *s, uint64_t revision, size_t tag)
+static uint32_t refuse_close(const struct session *s, struct edition edition, size_t tag)
 {
-    if (!numbers_are_sound(&s->numbers))
+    const struct numbers *n = &s->numbers;
+
+    if (!numbers_are_sound(n))
         return NOT_SOUND;
-    if (revision != s->numbers.revision)
+    if (edition.job != n->edition.job)
+        return BAD_JOB;
+    if (edition.revision != n->edition.revision)
         return BAD_REVISION;
     return tag == tag_length(s->joined.width) ? DONE : BAD_TAG_LENGTH;
 }
 
-uint32_t session_close(struct session *s, uint64_t revision, uint8_t *out, size_t out_len)
+uint32_t session_close(struct session *s, struct edition edition, uint8_t *out, size_t out_len)
 {
     static struct buffer sealed;
-    uint32_t answer = refuse_close(s, revision, out_len);
+    uint32_t answer = refuse_close(s, edition, out_len);
 
     if (answer != DONE)
         return answer;
@@ -116,9 +123,9 @@ uint32_t session_close(struct session *s, uint64_t revision, uint8_t *out, size_
     return DONE;
 }
 
-uint32_t session_check(struct session *s, uint64_t revision, struct bytes tag)
+uint32_t session_check(struct session *s, struct edition edition, struct bytes tag)
 {
-    uint32_t answer = refuse_close(s, revision, tag.length);
+    uint32_t answer = refuse_close(s, edition, tag.length);
 
     if (answer != DONE)
         return answer;

@@ -11,7 +11,7 @@ enum kind { SEALING, CHECKING };
 struct numbers {
     uint64_t counts[PARTS];
     uint32_t rounds;
-    uint64_t revision;
+    struct edition edition;
     unsigned standing;
 };
 
@@ -25,7 +25,7 @@ struct session {
 };
 
 struct piece {
-    uint64_t revision;
+    struct edition edition;
     unsigned part;
     uint64_t offset;
     struct bytes bytes;
@@ -36,7 +36,7 @@ struct piece {
 void session_clear(struct session *session, enum kind kind, uint32_t width);
 
 uint32_t session_start(struct session *session, enum kind kind, uint32_t width, uint32_t rounds, struct bytes key,
-                       struct bytes nonce, uint64_t revision);
+                       struct bytes nonce, struct edition edition);
 
 /* Whether all that an accepted call gives follows from the joined pieces. */
 bool session_is_certain(const struct session *session);
@@ -45,10 +45,10 @@ bool session_is_certain(const struct session *session);
 uint32_t session_piece(struct session *session, const struct piece *piece, uint8_t *out);
 
 /* Writes the tag of a certain session. */
-uint32_t session_close(struct session *session, uint64_t revision, uint8_t *out, size_t out_len);
+uint32_t session_close(struct session *session, struct edition edition, uint8_t *out, size_t out_len);
 
 /* Of a session that is not certain the answer 0 may as well be 10. */
-uint32_t session_check(struct session *session, uint64_t revision, struct bytes tag);
+uint32_t session_check(struct session *session, struct edition edition, struct bytes tag);
 
 /* The words of the joined pieces, and all zero of a closed session. */
 void session_words(const struct session *session, uint64_t words[16]);
