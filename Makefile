@@ -7,11 +7,11 @@ PREFIX ?= /usr/local
 MAKEFLAGS += --no-print-directory
 
 # How many minutes make and make test take from nothing, measured on two cores.
-minutes_of_all = 8
-minutes_of_test = 17
+minutes_of_all = 7 to 9
+minutes_of_test = 17 to 24
 
 all:
-	@MINUTES=$(minutes_of_all) tests/progress.sh check
+	@MINUTES='$(minutes_of_all)' tests/progress.sh check
 	@tests/show.sh replay
 	@echo
 	@$(MAKE) library
@@ -25,7 +25,7 @@ install: library
 	@packaging/install.sh $(abspath $(PREFIX))
 
 test:
-	@MINUTES=$(minutes_of_test) tests/gate.sh
+	@MINUTES='$(minutes_of_test)' tests/gate.sh
 
 outside:
 	@tests/outside.sh
