@@ -7,7 +7,7 @@ PREFIX ?= /usr/local
 MAKEFLAGS += --no-print-directory
 
 # How many minutes make and make test take from nothing, measured on two cores.
-minutes_of_all = 7 to 9
+minutes_of_all = 7 to 11
 minutes_of_test = 17 to 28
 
 all:
