@@ -8,7 +8,7 @@ MAKEFLAGS += --no-print-directory
 
 # How many minutes make and make test take from nothing, measured on two cores.
 minutes_of_all = 7 to 11
-minutes_of_test = 17 to 28
+minutes_of_test = 17 to 33
 
 all:
 	@MINUTES='$(minutes_of_all)' tests/progress.sh check
