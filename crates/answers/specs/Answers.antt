@@ -4,7 +4,7 @@ use Prim.Native.Nat.{ℕ}
 use mathlib.Core.Bool.{Bool, cond}
 use lib.Dec.{eqb}
 use Rattle.answers.specs.declared.Answer.{Answer}
-use Rattle.answers.specs.declared.Answer.the-variants.{Done, KeyLength, RoundsNumber, TagLength, OverLimit, OutputLength, OtherRevision, EarlierPart, OtherOffset, NotSound, TagDiffers, WidthNumber, OtherJob}
+use Rattle.answers.specs.declared.Answer.the-variants.{Done, KeyLength, RoundsNumber, TagLength, OverLimit, OutputLength, OtherRevision, EarlierPart, OtherOffset, NotSound, TagDiffers, WidthNumber, OtherJob, SegmentLength, AfterLast}
 
 abbrev pub numberOf : Answer → ℕ
 numberOf Done = 0
@@ -20,6 +20,8 @@ numberOf NotSound = 9
 numberOf TagDiffers = 10
 numberOf WidthNumber = 11
 numberOf OtherJob = 12
+numberOf SegmentLength = 13
+numberOf AfterLast = 14
 
 abbrev pub doneOf : Answer → Bool
 doneOf a = eqb (numberOf a) 0

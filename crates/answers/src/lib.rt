@@ -17,6 +17,8 @@ pub enum Answer {
     TagDiffers,
     WidthNumber,
     OtherJob,
+    SegmentLength,
+    AfterLast,
 }
 
 // The number of an answer, as the table of answers gives it.
@@ -37,6 +39,8 @@ pub fn number(a: Answer) -> u32
         Answer::TagDiffers => 10,
         Answer::WidthNumber => 11,
         Answer::OtherJob => 12,
+        Answer::SegmentLength => 13,
+        Answer::AfterLast => 14,
     }
 }
 

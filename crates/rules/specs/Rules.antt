@@ -20,6 +20,13 @@ longestTrailer = longestHeader
 abbrev pub longestNote : ℕ
 longestNote = longestHeader - frontBytes
 
+-- a segment has 65,536 bytes, and the last of a job 1 to as many; at most 1,048,576 of them
+abbrev pub segmentBytes : ℕ
+segmentBytes = 65536
+
+abbrev pub mostSegments : ℕ
+mostSegments = 1048576
+
 abbrev pub within : ℕ → ℕ → ℕ → Bool
 within header body trailer = leb header longestHeader && leb body longestBody && leb trailer longestTrailer
 

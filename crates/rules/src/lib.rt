@@ -19,6 +19,14 @@ pub const FRONT: usize = 16;
 // The longest note, 65520: what the front leaves of a header.
 pub const LONGEST_NOTE: usize = LONGEST_HEADER - FRONT;
 
+// The bytes of a segment, of which the last alone may have fewer, and the most segments of a job.
+pub const SEGMENT: usize = 65536;
+
+pub const MOST_SEGMENTS: u64 = 1048576;
+
+// The bytes of the number in a segment's nonce, which stands behind the nonce of its job.
+pub const SEGMENT_NUMBER: usize = 8;
+
 // The marks of header, body, trailer and tag.
 pub const HEADER_MARK: u8 = 0x01;
 

@@ -1,4 +1,5 @@
 pub mod Written
+pub mod Whole
 pub mod Demand
 pub mod Widths
 pub mod Unique

@@ -6,6 +6,8 @@ ghost use Rattle.sealing.specs.Widths.{sealAnswerAt, sealOutAt, openAnsw
 ghost use Rattle.sealing.specs.Promises.{SealsAt, OpensAt};
 use answers::Answer;
 
+pub mod body32;
+pub mod body64;
 pub mod w32;
 pub mod w64;
 

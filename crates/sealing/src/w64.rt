@@ -8,21 +8,16 @@ ghost use Rattle.rules.specs.Rules.{tagBytes};
 ghost use Rattle.rules.specs.Calls.{Exact};
 ghost use Rattle.rules.specs.OneCall.{sealAnswer, sealOut, tagAnswer, tagOut, openAnswer, openOut};
 ghost use Rattle.sealing.specs.Promises.{Seals, Opens};
+use crate::body64;
 use answers::Answer;
 use answers::done;
 use blocks64::ends::row;
 use blocks64::ends::start;
-use blocks64::ends::tag;
 use rules::HEADER_MARK;
-use rules::TRAILER_MARK;
 use rules::calls::open_checks;
 use rules::calls::seal_checks;
 use rules::w64::*;
 use sponge64::parts::absorb;
-use sponge64::parts::decrypt;
-use sponge64::parts::encrypt;
-use texts::clear;
-use texts::same;
 
 // The state where the body begins.
 fn before_body(rounds: u32, key: Row, nonce: &[u8], header: &[u8]) -> State
@@ -47,10 +42,7 @@ fn seal_checked(
 {
     let k = row(key);
     let s = before_body(rounds, k, nonce, header);
-    let n = body.len();
-    let t = encrypt(s, rounds, body, &mut out[0..n]);
-    let own = tag(rounds, k, absorb(t, rounds, TRAILER_MARK, trailer));
-    bytes::copy(&own, &mut out[n..]);
+    body64::seal(s, rounds, k, body, trailer, out);
 }
 
 // Seals a body: ciphertext and tag are written to the output, which is as long as both.
@@ -101,14 +93,7 @@ fn open_checked(
 {
     let k = row(key);
     let s = before_body(rounds, k, nonce, header);
-    let n = out.len();
-    let u = decrypt(s, rounds, &sealed[0..n], &mut *out);
-    let own = tag(rounds, k, absorb(u, rounds, TRAILER_MARK, trailer));
-    if same(&sealed[n..], &own) {
-        return Answer::Done;
-    }
-    clear(out);
-    Answer::TagDiffers
+    body64::open(s, rounds, k, sealed, trailer, out)
 }
 
 // Opens a sealed text: its message is written to the output, which is as long as the text less its tag; zeros where the tag differs.

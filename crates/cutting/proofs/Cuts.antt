@@ -1,0 +1,53 @@
+-- The numbers of a cut: places by quotients, and the number in a nonce.
+-- Assumes nothing.
+use mathlib.Core.Path.{_≡_, refl, sym, ap, _∙_}
+use mathlib.Core.List.{_∷_}
+use mathlib.Core.Bool.{Bool, true, false, cond}
+use Prim.Native.Nat.{ℕ, zero, suc, _+_, _*_, _/_, _%_, _≤_, _<_}
+use native.Mathlib.Omega.{arith}
+use native.Mathlib.Nat.{mul-assoc}
+use borrow.Author.Tests.{le-leb, lt-leb}
+use lib.Dec.{leb}
+use Rattle.norx.specs.Norx.{bytesOf}
+use Rattle.norx.specs.Front.{eightBytes}
+use Rattle.rules.specs.Rules.{segmentBytes}
+use Rattle.answers.proofs.Tests.{cond-true, cond-false}
+use Rattle.cutting.specs.Cutting.{segmentNumber}
+
+-- i segments are in n bytes or not
+pub full-within : (n i : ℕ) → i * segmentBytes ≤ n → cond (leb (i * segmentBytes) n) (i * segmentBytes) n ≡ i * segmentBytes
+full-within n i h = cond-true _ _ _ (le-leb _ _ h)
+
+pub full-beyond : (n i : ℕ) → n < i * segmentBytes → cond (leb (i * segmentBytes) n) (i * segmentBytes) n ≡ n
+full-beyond n i h = cond-false _ _ _ (lt-leb _ _ h)
+
+-- the number in a nonce, in 64 bits
+pub number-last : (i : ℕ) {last : Bool} → last ≡ true → i % 9223372036854775808 * 2 + 1 ≡ segmentNumber i last % 18446744073709551616
+unfolding segmentNumber
+number-last i e = rw e (omega arith)
+
+pub number-other : (i : ℕ) {last : Bool} → last ≡ false → i % 9223372036854775808 * 2 ≡ segmentNumber i last % 18446744073709551616
+unfolding segmentNumber
+number-other i e = rw e (omega arith)
+
+-- k bytes have no more of a number than what is below 256 to the k
+unfoldable above : ℕ → ℕ
+above zero = 1
+above (suc k) = above k * 256
+
+bytes-below : (k q r : ℕ) → bytesOf k (r + q * above k) ≡ bytesOf k r
+unfolding bytesOf above
+bytes-below zero q r = refl
+bytes-below (suc k) q r =
+    let p : ℕ = q * above k in
+    let e : r + q * (above k * 256) ≡ r + p * 256 = ap (λ (n : ℕ). r + n) (sym (mul-assoc q (above k) 256)) in
+    let first : (r + q * (above k * 256)) % 256 ≡ r % 256 = ap (λ (n : ℕ). n % 256) e ∙ omega arith in
+    let rest : (r + q * (above k * 256)) / 256 ≡ r / 256 + p = ap (λ (n : ℕ). n / 256) e ∙ omega arith in
+    λ j. first j ∷ (ap (bytesOf k) rest ∙ bytes-below k q (r / 256)) j
+
+-- so eight have no more of it than 64 bits
+pub eight-of : (x : ℕ) → bytesOf 8 (x % 18446744073709551616) ≡ eightBytes x
+unfolding eightBytes above
+eight-of x =
+    let parts : x % 18446744073709551616 + x / 18446744073709551616 * 18446744073709551616 ≡ x = omega arith in
+    sym (bytes-below 8 (x / 18446744073709551616) (x % 18446744073709551616)) ∙ ap (bytesOf 8) parts

@@ -1,0 +1,58 @@
+// A body sealed and a text opened at 32-bit words, from the state where the body begins.
+ghost use mathlib.Core.Path.{_≡_};
+ghost use mathlib.Core.Bool.{cond};
+ghost use Prim.Native.Nat.{_+_};
+ghost use lib.Dec.{eqb};
+ghost use lib.ListN.{length};
+ghost use Rattle.norx.specs.Lent.{was};
+ghost use Rattle.norx.specs.Norx.{word32, tagBits};
+ghost use Rattle.answers.specs.declared.Answer.the-variants.{OutputLength};
+ghost use Rattle.rules.specs.Rules.{tagBytes};
+ghost use Rattle.rules.specs.Calls.{answerOf, outOf};
+ghost use Rattle.sealing.specs.Bodies.{sealedFrom, openedFrom};
+use answers::Answer;
+use blocks32::ends::tag;
+use rules::TRAILER_MARK;
+use rules::w32::*;
+use sponge32::parts::absorb;
+use sponge32::parts::decrypt;
+use sponge32::parts::encrypt;
+use texts::clear;
+use texts::same;
+
+// Seals a body: ciphertext and tag are written; nothing where the output is not as long as both.
+pub fn seal(s: State, rounds: u32, key: Row, body: &[u8], trailer: &[u8], out: &mut [u8])
+    ensures { λ _. ⌜ now (out .exit) ≡ cond (eqb (length (was out)) (length (was body) + tagBytes word32)) (sealedFrom word32 rounds (tagBits word32) key s (was body) (was trailer)) (was out) ⌝ }
+{
+    let n = body.len();
+    if out.len() == n + TAG {
+        let t = encrypt(s, rounds, body, &mut out[0..n]);
+        let own = tag(rounds, key, absorb(t, rounds, TRAILER_MARK, trailer));
+        bytes::copy(&own, &mut out[n..]);
+    }
+}
+
+// Opens a sealed text: its message is written where the tag is its own, and else zeros; nothing, and 5, where the text is not as long as the output and a tag.
+pub fn open(
+    s: State,
+    rounds: u32,
+    key: Row,
+    sealed: &[u8],
+    trailer: &[u8],
+    out: &mut [u8],
+) -> Answer
+    ensures answer { λ r. ⌜ r ≡ cond (eqb (length (was sealed)) (length (was out) + tagBytes word32)) (answerOf (openedFrom word32 rounds (tagBits word32) key s (was sealed) (was trailer))) OutputLength ⌝ }
+    ensures output { λ _. ⌜ now (out .exit) ≡ cond (eqb (length (was sealed)) (length (was out) + tagBytes word32)) (outOf (openedFrom word32 rounds (tagBits word32) key s (was sealed) (was trailer)) (length (was out))) (was out) ⌝ }
+{
+    let n = out.len();
+    if sealed.len() != n + TAG {
+        return Answer::OutputLength;
+    }
+    let u = decrypt(s, rounds, &sealed[0..n], &mut *out);
+    let own = tag(rounds, key, absorb(u, rounds, TRAILER_MARK, trailer));
+    if same(&sealed[n..], &own) {
+        return Answer::Done;
+    }
+    clear(out);
+    Answer::TagDiffers
+}
