@@ -2,17 +2,18 @@
 -- Assumes nothing.
 use mathlib.Core.Path.{_≡_, refl, sym, ap, _∙_}
 use mathlib.Core.List.{_∷_}
+use mathlib.Core.Logic.{⊎-elim}
 use mathlib.Core.Bool.{Bool, true, false, cond}
 use Prim.Native.Nat.{ℕ, zero, suc, _+_, _*_, _/_, _%_, _≤_, _<_}
 use native.Mathlib.Omega.{arith}
 use native.Mathlib.Nat.{mul-assoc}
-use borrow.Author.Tests.{le-leb, lt-leb}
+use borrow.Author.Tests.{le-leb, lt-leb, leb-true}
 use lib.Dec.{leb}
 use Rattle.norx.specs.Norx.{bytesOf}
 use Rattle.norx.specs.Front.{eightBytes}
 use Rattle.rules.specs.Rules.{segmentBytes}
-use Rattle.answers.proofs.Tests.{cond-true, cond-false}
-use Rattle.cutting.specs.Cutting.{segmentNumber}
+use Rattle.answers.proofs.Tests.{either, cond-true, cond-false}
+use Rattle.cutting.specs.Cutting.{countOf, beginOf, endOf, segmentNumber}
 
 -- i segments are in n bytes or not
 pub full-within : (n i : ℕ) → i * segmentBytes ≤ n → cond (leb (i * segmentBytes) n) (i * segmentBytes) n ≡ i * segmentBytes
@@ -51,3 +52,28 @@ unfolding eightBytes above
 eight-of x =
     let parts : x % 18446744073709551616 + x / 18446744073709551616 * 18446744073709551616 ≡ x = omega arith in
     sym (bytes-below 8 (x / 18446744073709551616) (x % 18446744073709551616)) ∙ ap (bytesOf 8) parts
+
+-- ---- the segments of a body of n bytes
+
+module _ (n k : ℕ) where
+  pub begin-within : k < countOf n → beginOf n k ≡ k * segmentBytes
+  unfolding countOf beginOf
+  begin-within h = full-within n k (omega arith)
+
+  pub end-within : k + 1 < countOf n → endOf n k ≡ (k + 1) * segmentBytes
+  unfolding countOf endOf
+  end-within h = full-within n (k + 1) (omega arith)
+
+  -- the last ends where the body does
+  pub end-last : k + 1 ≡ countOf n → endOf n k ≡ n
+  unfolding countOf endOf
+  end-last h =
+      ⊎-elim (λ (e : leb ((k + 1) * segmentBytes) n ≡ true). cond-true _ _ _ e ∙ (let le : (k + 1) * segmentBytes ≤ n = leb-true _ _ e in omega arith))
+      (λ (e : leb ((k + 1) * segmentBytes) n ≡ false). cond-false _ _ _ e) (either (leb ((k + 1) * segmentBytes) n))
+
+  -- and none ends behind it
+  pub end-most : endOf n k ≤ n
+  unfolding endOf
+  end-most =
+      ⊎-elim (λ (e : leb ((k + 1) * segmentBytes) n ≡ true). rw (cond-true (leb ((k + 1) * segmentBytes) n) ((k + 1) * segmentBytes) n e) (leb-true _ _ e))
+      (λ (e : leb ((k + 1) * segmentBytes) n ≡ false). rw (cond-false (leb ((k + 1) * segmentBytes) n) ((k + 1) * segmentBytes) n e) (omega arith)) (either (leb ((k + 1) * segmentBytes) n))

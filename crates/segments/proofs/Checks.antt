@@ -60,10 +60,10 @@ module _ (w : Width) (key nonce : List ℕ) (T : Terms) (note : List ℕ) (i : �
   unfolding segmentAnswer sealAnswer
   segment-chain e f g =
       let as-one-call = e ∙ ap₂ (λ (n h : ℕ). sealChecks (rowBytes w) (tagBytes w) (T .rounds) (length key) n h (length text) 0 (length out))
-          (sym (nonce-long nonce i last)) (sym (header-long T note)) in
+      (sym (nonce-long nonce i last)) (sym (header-long T note)) in
       link SegmentLength g refl f as-one-call
 
-  segment-passed : doneOf (segmentAnswer w key nonce T note i last text out) ≡ true
+  pub segment-passed : doneOf (segmentAnswer w key nonce T note i last text out) ≡ true
       → (segmentOk i last (length text) ≡ true) × (doneOf (sealAnswer w (T .rounds) key own header text [] out) ≡ true)
   unfolding segmentAnswer
   segment-passed e = passed (segmentOk i last (length text)) SegmentLength _ refl e
@@ -132,7 +132,7 @@ module _ (w : Width) (key nonce : List ℕ) (T : Terms) (note : List ℕ) (W : W
       → r ≡ takeLinks W last (tagBytes w) (length text) (checked w (T .rounds) key (segmentNonce nonce (W .index) last) (segmentHeader T note) text [] out)
   take-chain e g =
       let as-one-call = e ∙ ap₂ (λ (n h : ℕ). openChecks (rowBytes w) (tagBytes w) (T .rounds) (length key) n h (length text) 0 (length out))
-          (sym (nonce-long nonce (W .index) last)) (sym (header-long T note)) in
+      (sym (nonce-long nonce (W .index) last)) (sym (header-long T note)) in
       g ∙ ap (takeLinks W last (tagBytes w) (length text)) as-one-call
 
   -- what is known where no number refuses

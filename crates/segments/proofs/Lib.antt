@@ -1,3 +1,12 @@
 pub mod Checks
 pub mod States
 pub mod Receive
+pub mod Rules
+pub mod Sealed
+pub mod Started
+pub mod Taking
+pub mod Received
+pub mod WholeWay
+pub mod Nonces
+pub mod Structs
+pub mod Unique

@@ -1,3 +1,7 @@
 pub mod Segments
 pub mod Receivers
 pub mod Structs
+pub mod Rule
+pub mod Promises
+pub mod Offers
+pub mod Nonces

@@ -45,7 +45,7 @@ returns-2 c =
     let e = tested answer (left .before .done .ensures) (not-false _ (left .if1 .left)) in (
       answer,
       sealed-at .seal-checked .ensures
-      ∙ sym (segment-sealed word32 (x .key .now) (x .nonce .now) (x .terms) (x .note .now) (x .index) (x .last) (x .body .now) (x .out .now) e),
+          ∙ sym (segment-sealed word32 (x .key .now) (x .nonce .now) (x .terms) (x .note .now) (x .index) (x .last) (x .body .now) (x .out .now) e),
     )
 
 pub seal-spec : {M : Type 1} → statement M
