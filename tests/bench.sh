@@ -1,5 +1,5 @@
 #!/bin/sh
-# Builds the benchmark with the archive and runs it:
+# Builds both benchmarks with the archive and runs them: the library beside the reference, and segments beside one call:
 #   tests/bench.sh [ARCHIVE]
 
 set -eu
@@ -11,4 +11,9 @@ mkdir -p target/tests
 # The flags are lists of words.
 # shellcheck disable=SC2086
 $CC $CFLAGS -Iinclude -Itests/reference -o "$program" tests/bench.c tests/reference/norx.c "$archive" $LDFLAGS
+# shellcheck disable=SC2086
+$CC $CFLAGS -pthread -Iinclude -Itests/reference -o "${program}_segments" \
+    tests/bench_segments.c tests/reference/norx.c tests/reference/segments.c "$archive" $LDFLAGS
 $RUN "$program"
+echo
+$RUN "${program}_segments"

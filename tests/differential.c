@@ -46,6 +46,32 @@ static struct options read_options(int count, char **arguments)
     return options;
 }
 
+static void whole_messages(struct message *message, const char *vectors)
+{
+    published_vectors(message, vectors);
+    lengths_around_the_rate(message);
+    single_refusals(message);
+    refusals_at_once(message);
+    null_pointers(message);
+    random_messages(message);
+    damaged_messages(message);
+    large_bodies(message);
+    parts_at_their_limits(message);
+}
+
+static void segments(struct message *message)
+{
+    segments_by_hand(message);
+    segment_lengths(message);
+    segment_notes(message);
+    segment_flags(message);
+    single_refusals_of_segments(message);
+    segment_refusals_at_once(message);
+    damaged_segments(message);
+    segment_null_pointers(message);
+    segmented_jobs(message);
+}
+
 int main(int count, char **arguments)
 {
     struct options options = read_options(count, arguments);
@@ -53,15 +79,8 @@ int main(int count, char **arguments)
 
     cases_start(&options);
     message_allocate(&message);
-    published_vectors(&message, options.vectors);
-    lengths_around_the_rate(&message);
-    single_refusals(&message);
-    refusals_at_once(&message);
-    null_pointers(&message);
-    random_messages(&message);
-    damaged_messages(&message);
-    large_bodies(&message);
-    parts_at_their_limits(&message);
+    whole_messages(&message, options.vectors);
+    segments(&message);
     message_free(&message);
     return cases_finish();
 }

@@ -11,7 +11,10 @@ cat >target/tests/unlooked.c <<'C'
 #include "jeczmilot.h"
 void unlooked(uint8_t *out);
 void unlooked(uint8_t *out) {
+    norx_seal(64, 4, out, 0, out, 0, out, 0, out, 0, out, 0, out, 0);
     norx_open(64, 4, out, 0, out, 0, out, 0, out, 0, out, 0, out, 0);
+    norx_segment_seal(64, 4, out, 0, out, 0, 7, 12, out, 0, 0, 1, out, 0, out, 0);
+    norx_segment_open(64, 4, out, 0, out, 0, 7, 12, out, 0, 0, 0, 1, out, 0, out, 0);
 }
 C
 
@@ -25,7 +28,9 @@ if compiles -std=c11 target/tests/unlooked.c; then
     echo "an answer that is not looked at brings no warning"
     exit 1
 fi
-grep -q 'unused-result' target/tests/header.out || { cat target/tests/header.out; exit 1; }
+for call in norx_seal norx_open norx_segment_seal norx_segment_open; do
+    grep -q "$call.*unused-result" target/tests/header.out || { echo "no warning of $call"; cat target/tests/header.out; exit 1; }
+done
 
 packaging/install.sh "$root/target/tests/versioned" "$archive" >target/tests/header.out
 version=$(sed -n 's/^#define JECZMILOT_VERSION "\(.*\)"$/\1/p' include/jeczmilot.h)

@@ -30,6 +30,36 @@ static void row(const char *name, uint32_t width, size_t header, size_t body, si
     free(out);
 }
 
+/* Seals a segment of zeros and prints the answer. */
+static void segment_row(const char *name, uint32_t width, size_t note, uint64_t index, uint32_t last, size_t body)
+{
+    size_t row_bytes = width / 2;
+    uint8_t *key = zeros(row_bytes), *parts[2] = {zeros(note), zeros(body)}, *out = zeros(body + row_bytes);
+    uint32_t answer = norx_segment_seal(width, 4, key, row_bytes, key, row_bytes - 8, 7, 12, parts[0], note, index, last, parts[1],
+                                        body, out, body + row_bytes);
+    printf("%s at %" PRIu32 " bits: %" PRIu32 "\n", name, width, answer);
+    free(key);
+    free(parts[0]);
+    free(parts[1]);
+    free(out);
+}
+
+static void segment_rows(uint32_t width)
+{
+    const uint64_t highest = JECZMILOT_SEGMENTS_LIMIT - 1;
+
+    segment_row("a segment with a note of 65520", width, JECZMILOT_NOTE_LIMIT, 0, 1, 1);
+    segment_row("a segment with a note of 65521", width, JECZMILOT_NOTE_LIMIT + 1, 0, 1, 1);
+    segment_row("a last segment of 65536", width, 0, 1, 1, JECZMILOT_SEGMENT_BYTES);
+    segment_row("a last segment of 65537", width, 0, 1, 1, JECZMILOT_SEGMENT_BYTES + 1);
+    segment_row("a segment of 65536, not last", width, 0, 1, 0, JECZMILOT_SEGMENT_BYTES);
+    segment_row("a segment of 65537, not last", width, 0, 1, 0, JECZMILOT_SEGMENT_BYTES + 1);
+    segment_row("segment 1048574, not last", width, 0, highest - 1, 0, JECZMILOT_SEGMENT_BYTES);
+    segment_row("segment 1048575, not last", width, 0, highest, 0, JECZMILOT_SEGMENT_BYTES);
+    segment_row("segment 1048575, last", width, 0, highest, 1, JECZMILOT_SEGMENT_BYTES);
+    segment_row("segment 1048576, last", width, 0, highest + 1, 1, JECZMILOT_SEGMENT_BYTES);
+}
+
 int main(void)
 {
     for (uint32_t width = 32; width <= 64; width += 32) {
@@ -39,6 +69,7 @@ int main(void)
         row("a header of 65537", width, JECZMILOT_HEADER_LIMIT + 1, 1, 0);
         row("a trailer of 65536", width, 0, 1, JECZMILOT_TRAILER_LIMIT);
         row("a trailer of 65537", width, 0, 1, JECZMILOT_TRAILER_LIMIT + 1);
+        segment_rows(width);
     }
     return 0;
 }

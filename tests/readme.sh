@@ -1,6 +1,6 @@
 #!/bin/sh
-# Builds the C program of the README, its first C code, as it stands there, once with the archive and once against what `make install` puts
-# in place, and compares what it writes with what the README says; the README's story with what the program replay must write;
+# Builds the C programs of the README, its first and its third C code, as they stand there, once with the archive and once against what
+# `make install` puts in place, and compares what they write with what the README says; the README's story with what the program replay must write;
 # and the README's Rattle code with the program example, which the gate proves and runs:
 #   tests/readme.sh [ARCHIVE]
 
@@ -9,17 +9,27 @@ set -eu
 . tests/tools.sh
 
 mkdir -p target/tests
-awk '/^```c$/ { on = 1; next } /^```$/ && on { exit } on' README.md >target/tests/readme.c
-awk '/^It writes:$/ { on = 1; next } on && /^    / { print substr($0, 5); seen = 1; next } seen { exit }' README.md >target/tests/readme.txt
 
-# Builds it with the flags given, runs it and compares.
+# Takes a program out of the README by the number of its C code, and what it writes by the number of "It writes:".
+take() { # NAME CODE TEXT
+    awk -v code="$2" '/^```c$/ { on = ++blocks == code; next } /^```$/ { on = 0 } on' README.md >"target/tests/$1.c"
+    awk -v text="$3" '/^It writes:$/ { on = ++texts == text; next } on && /^    / { print substr($0, 5); seen = 1; next } seen { exit }' README.md >"target/tests/$1.txt"
+    test -s "target/tests/$1.txt"
+}
+
+take readme 1 1
+take readme_segments 3 2
+
+# Builds both with the flags given, runs them and compares.
 try() {
-    # The flags are lists of words.
-    # shellcheck disable=SC2086
-    $CC $CFLAGS -o target/tests/readme target/tests/readme.c "$@" $LDFLAGS
-    $RUN target/tests/readme >target/tests/readme.out
-    cat target/tests/readme.out
-    cmp target/tests/readme.txt target/tests/readme.out
+    for name in readme readme_segments; do
+        # The flags are lists of words.
+        # shellcheck disable=SC2086
+        $CC $CFLAGS -o "target/tests/$name" "target/tests/$name.c" "$@" $LDFLAGS
+        $RUN "target/tests/$name" >"target/tests/$name.out"
+        cat "target/tests/$name.out"
+        cmp "target/tests/$name.txt" "target/tests/$name.out"
+    done
 }
 
 try -Iinclude "$archive"

@@ -9,14 +9,34 @@
 #include "guarded.h"
 #include "jeczmilot.h"
 #include "norx.h"
+#include "segments.h"
 
 typedef uint32_t one_call(uint32_t width, uint32_t rounds, const uint8_t *key, size_t key_len, const uint8_t *nonce,
                           size_t nonce_len, const uint8_t *header, size_t header_len, const uint8_t *body,
                           size_t body_len, const uint8_t *trailer, size_t trailer_len, uint8_t *out, size_t out_len);
 
+typedef uint32_t segment_seal(uint32_t width, uint32_t rounds, const uint8_t *key, size_t key_len,
+                              const uint8_t *nonce, size_t nonce_len, uint64_t job, uint64_t revision,
+                              const uint8_t *note, size_t note_len, uint64_t index, uint32_t last,
+                              const uint8_t *body, size_t body_len, uint8_t *out, size_t out_len);
+
+typedef uint32_t segment_open(uint32_t width, uint32_t rounds, const uint8_t *key, size_t key_len,
+                              const uint8_t *nonce, size_t nonce_len, uint64_t job, uint64_t revision,
+                              const uint8_t *note, size_t note_len, uint64_t index, uint32_t complete, uint32_t last,
+                              const uint8_t *sealed, size_t sealed_len, uint8_t *out, size_t out_len);
+
+struct side {
+    one_call *seal, *open;
+    segment_seal *segment_seal;
+    segment_open *segment_open;
+};
+
+static const struct side library = {norx_seal, norx_open, norx_segment_seal, norx_segment_open};
+static const struct side reference = {reference_seal, reference_open, reference_segment_seal, reference_segment_open};
+
 enum { INPUTS = 5 };
 
-static const char *const input_names[INPUTS] = {"key", "nonce", "header", "body or sealed text", "trailer"};
+static const char *const input_names[INPUTS] = {"key", "nonce", "header or note", "body or sealed text", "trailer"};
 
 static struct guarded lent_inputs[INPUTS];
 static struct guarded library_output, reference_output;
@@ -24,14 +44,33 @@ static enum operation last_operation;
 
 const char *operation_name(enum operation operation)
 {
-    return operation == SEAL ? "seal" : "open";
+    static const char *const names[] = {"seal", "open", "segment-seal", "segment-open"};
+
+    return names[operation];
 }
 
-static uint32_t make(one_call *function, const struct call *c, struct guarded *output)
+static uint32_t make_segment(const struct side *side, const struct call *c, uint8_t *out)
 {
+    const struct place *p = &c->place;
+
+    if (c->operation == SEGMENT_SEAL)
+        return side->segment_seal(c->width, c->rounds, c->key.at, c->key.length, c->nonce.at, c->nonce.length, p->job,
+                                  p->revision, c->header.at, c->header.length, p->index, p->last, c->body.at,
+                                  c->body.length, out, c->out_len);
+    return side->segment_open(c->width, c->rounds, c->key.at, c->key.length, c->nonce.at, c->nonce.length, p->job,
+                              p->revision, c->header.at, c->header.length, p->index, p->complete, p->last, c->body.at,
+                              c->body.length, out, c->out_len);
+}
+
+static uint32_t make(const struct side *side, const struct call *c, struct guarded *output)
+{
+    uint8_t *out = c->out_is_null ? NULL : output->bytes;
+    one_call *function = c->operation == SEAL ? side->seal : side->open;
+
+    if (c->operation == SEGMENT_SEAL || c->operation == SEGMENT_OPEN)
+        return make_segment(side, c, out);
     return function(c->width, c->rounds, c->key.at, c->key.length, c->nonce.at, c->nonce.length, c->header.at,
-                    c->header.length, c->body.at, c->body.length, c->trailer.at, c->trailer.length,
-                    c->out_is_null ? NULL : output->bytes, c->out_len);
+                    c->header.length, c->body.at, c->body.length, c->trailer.at, c->trailer.length, out, c->out_len);
 }
 
 static struct bytes *input_of(struct call *call, int input)
@@ -97,16 +136,14 @@ static void compare_with_rule(const char *operation, uint32_t answer)
 void compare_call(const struct call *call, uint32_t expected_answer)
 {
     const char *operation = operation_name(call->operation);
-    one_call *library = call->operation == SEAL ? norx_seal : norx_open;
-    one_call *reference = call->operation == SEAL ? reference_seal : reference_open;
     struct call lent = lend_inputs(call);
     uint32_t library_answer, reference_answer;
 
     last_operation = call->operation;
     guarded_output(&library_output, call->out_len, case_number());
     guarded_output(&reference_output, call->out_len, case_number());
-    library_answer = make(library, &lent, &library_output);
-    reference_answer = make(reference, call, &reference_output);
+    library_answer = make(&library, &lent, &library_output);
+    reference_answer = make(&reference, call, &reference_output);
     if (library_answer != expected_answer || reference_answer != expected_answer)
         case_differs("%s: answer %" PRIu32 ", the reference answers %" PRIu32 ", expected is %" PRIu32, operation,
                      library_answer, reference_answer, expected_answer);
@@ -122,4 +159,9 @@ void compare_output(const uint8_t *expected, size_t length)
                      library_output.length, length);
     else
         compare_bytes("the expected output", expected, length);
+}
+
+void take_output(uint8_t *to, size_t length)
+{
+    memcpy(to, library_output.bytes, length);
 }

@@ -13,21 +13,31 @@ enum {
     OVER_LIMIT = 4,
     BAD_OUTPUT = 5,
     BAD_TAG = 10,
-    BAD_WIDTH = 11
+    BAD_WIDTH = 11,
+    BAD_SEGMENT = 13,
+    AFTER_LAST = 14
 };
 
-enum operation { SEAL, OPEN };
+enum operation { SEAL, OPEN, SEGMENT_SEAL, SEGMENT_OPEN };
 
 struct bytes {
     const uint8_t *at;
     size_t length;
 };
 
-/* A call of sealing or opening; in opening the body is the sealed text. */
+/* The numbers of a segment; sealing has no use for complete, and the calls on whole messages for none of them. */
+struct place {
+    uint64_t job, revision, index;
+    uint32_t last, complete;
+};
+
+/* A call of sealing or opening; in opening the body is the sealed text. A segment's header is the note of its job,
+   its nonce that of its job, and it has no trailer. */
 struct call {
     enum operation operation;
     uint32_t width, rounds;
     struct bytes key, nonce, header, body, trailer;
+    struct place place;
     size_t out_len;
     bool out_is_null;
 };
@@ -39,5 +49,8 @@ void compare_call(const struct call *call, uint32_t expected_answer);
 
 /* Reports a difference between the library's last output and these bytes. */
 void compare_output(const uint8_t *expected, size_t length);
+
+/* Copies the library's last output, which has so many bytes. */
+void take_output(uint8_t *to, size_t length);
 
 #endif

@@ -23,4 +23,24 @@ void refusals_at_once(struct message *message);
 
 void null_pointers(struct message *message);
 
+/* Of segments. */
+
+void segments_by_hand(struct message *message);
+
+void segment_lengths(struct message *message);
+
+void segment_notes(struct message *message);
+
+void segment_flags(struct message *message);
+
+void single_refusals_of_segments(struct message *message);
+
+void segment_refusals_at_once(struct message *message);
+
+void damaged_segments(struct message *message);
+
+void segment_null_pointers(struct message *message);
+
+void segmented_jobs(struct message *message);
+
 #endif

@@ -51,10 +51,8 @@ void message_free(struct message *message)
     free(message->sealed);
 }
 
-void message_fill(struct message *m, struct instance instance, struct lengths lengths, struct prng *prng)
+void message_draw(struct message *m, struct instance instance, struct lengths lengths, struct prng *prng)
 {
-    size_t tag = tag_length(instance);
-
     m->instance = instance;
     m->lengths = lengths;
     prng_fill(prng, m->key, sizeof m->key);
@@ -62,6 +60,13 @@ void message_fill(struct message *m, struct instance instance, struct lengths le
     prng_fill(prng, m->header, lengths.header);
     prng_fill(prng, m->body, lengths.body);
     prng_fill(prng, m->trailer, lengths.trailer);
+}
+
+void message_fill(struct message *m, struct instance instance, struct lengths lengths, struct prng *prng)
+{
+    size_t tag = tag_length(instance);
+
+    message_draw(m, instance, lengths, prng);
     if (lengths.header > EDGE_LIMIT || lengths.body > BODY_LIMIT || lengths.trailer > EDGE_LIMIT)
         prng_fill(prng, m->sealed, sealed_length(m));
     else

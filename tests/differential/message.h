@@ -23,10 +23,11 @@ struct lengths {
     size_t header, body, trailer;
 };
 
-/* Something to seal, and its sealed text; the parts have room for one byte over the limit. */
+/* Something to seal, and its sealed text; the parts have room for one byte over the limit. The place is a segment's. */
 struct message {
     struct instance instance;
     struct lengths lengths;
+    struct place place;
     uint8_t key[LONGEST_KEY], nonce[LONGEST_KEY];
     uint8_t *header, *body, *trailer, *sealed;
 };
@@ -34,6 +35,9 @@ struct message {
 void message_allocate(struct message *message);
 
 void message_free(struct message *message);
+
+/* Fills the message with random bytes, and leaves its sealed text alone. */
+void message_draw(struct message *message, struct instance instance, struct lengths lengths, struct prng *prng);
 
 /* Fills the message and seals it with the reference; over a limit the sealed text is random. */
 void message_fill(struct message *message, struct instance instance, struct lengths lengths, struct prng *prng);

@@ -1,18 +1,13 @@
 /* Several refusals at once: the answer is the first in the order 11, 2, 1, 3, 4, 5, 10. */
 
-#include <stdio.h>
-#include <string.h>
-
 #include "cases.h"
 #include "families.h"
+#include "faults.h"
 
 /* Standing in the order in which their answers are given. */
-enum fault { WIDTH, ROUNDS, KEY, NONCE, SHORT, HEADER, BODY, TRAILER, OUTPUT, TAG, FAULTS };
+enum { WIDTH, ROUNDS, KEY, NONCE, SHORT, HEADER, BODY, TRAILER, OUTPUT, TAG, FAULTS };
 
-static const struct {
-    const char *name;
-    uint32_t answer;
-} faults[FAULTS] = {
+static const struct fault faults[FAULTS] = {
     [WIDTH] = {"width", BAD_WIDTH},
     [ROUNDS] = {"rounds", BAD_ROUNDS},
     [KEY] = {"key", BAD_KEY_OR_NONCE},
@@ -24,34 +19,6 @@ static const struct {
     [OUTPUT] = {"output", BAD_OUTPUT},
     [TAG] = {"tag", BAD_TAG},
 };
-
-static bool has(unsigned set, enum fault fault)
-{
-    return (set >> fault & 1) != 0;
-}
-
-static unsigned only(enum fault fault)
-{
-    return 1u << fault;
-}
-
-static uint32_t first_answer(unsigned set)
-{
-    for (int fault = 0; fault < FAULTS; fault++)
-        if (has(set, fault))
-            return faults[fault].answer;
-    return DONE;
-}
-
-static void join_names(char *names, unsigned set)
-{
-    names[0] = '\0';
-    for (int fault = 0; fault < FAULTS; fault++)
-        if (has(set, fault)) {
-            strcat(names, names[0] != '\0' ? "+" : "");
-            strcat(names, faults[fault].name);
-        }
-}
 
 /* A short text has no tag to spoil and no body to be too long; sealing has neither of the two. */
 static bool is_possible(enum operation operation, unsigned set)
@@ -69,13 +36,6 @@ static struct lengths lengths_with(unsigned set, struct prng *prng)
     lengths.body = has(set, BODY) ? BODY_LIMIT + 1 : prng_below(prng, 200);
     lengths.trailer = has(set, TRAILER) ? EDGE_LIMIT + 1 : prng_below(prng, 200);
     return lengths;
-}
-
-static size_t other_length(size_t right, struct prng *prng)
-{
-    size_t length = prng_below(prng, right + 2);
-
-    return length < right ? length : length + 1;
 }
 
 static void spoil(struct call *call, unsigned set, size_t tag, struct prng *prng)
@@ -102,7 +62,7 @@ static void one_set(struct message *message, struct instance instance, enum oper
     struct prng prng;
     struct call call;
 
-    join_names(names, set);
+    join_names(names, faults, FAULTS, set);
     if (!case_begins("refusals %s %u %u %s", operation_name(operation), instance.width, instance.rounds, names))
         return;
     prng = case_prng();
@@ -111,7 +71,7 @@ static void one_set(struct message *message, struct instance instance, enum oper
         message->sealed[sealed_length(message) - 1] ^= 0x40;
     call = operation == SEAL ? seal_call(message) : open_call(message);
     spoil(&call, set, tag_length(instance), &prng);
-    compare_call(&call, first_answer(set));
+    compare_call(&call, first_answer(faults, FAULTS, set));
 }
 
 /* All sets without the body over its limit, which would take too long. */

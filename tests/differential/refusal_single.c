@@ -2,6 +2,7 @@
 
 #include "cases.h"
 #include "families.h"
+#include "segment.h"
 
 enum { FARTHEST_OUTPUT = 50 };
 
@@ -18,11 +19,15 @@ static const uint32_t bad_rounds[] = {
 
 #define COUNT(array) (sizeof(array) / sizeof *(array))
 
-/* Makes a small message for the case and gives the call that would be done. */
+/* Makes a small message or segment for the case and gives the call that would be done. */
 static struct call good_call(struct message *message, struct instance instance, enum operation operation)
 {
     struct prng prng = case_prng();
 
+    if (operation == SEGMENT_SEAL || operation == SEGMENT_OPEN) {
+        small_segment(message, instance, &prng);
+        return segment_call(message, operation);
+    }
     message_fill(message, instance, random_lengths(instance, &prng), &prng);
     return operation == SEAL ? seal_call(message) : open_call(message);
 }
@@ -51,18 +56,17 @@ static void numbers(struct message *message, struct instance instance, enum oper
         }
 }
 
-static void key_and_nonce(struct message *message, struct instance instance, enum operation operation)
+static void key_and_nonce(struct message *message, struct instance instance, enum operation operation,
+                          size_t nonce_length)
 {
     for (size_t length = 0; length <= LONGEST_KEY; length++) {
-        if (length == tag_length(instance))
-            continue;
-        if (refusal_begins(instance, operation, "key", length)) {
+        if (length != tag_length(instance) && refusal_begins(instance, operation, "key", length)) {
             struct call call = good_call(message, instance, operation);
 
             call.key.length = length;
             compare_call(&call, BAD_KEY_OR_NONCE);
         }
-        if (refusal_begins(instance, operation, "nonce", length)) {
+        if (length != nonce_length && refusal_begins(instance, operation, "nonce", length)) {
             struct call call = good_call(message, instance, operation);
 
             call.nonce.length = length;
@@ -72,16 +76,18 @@ static void key_and_nonce(struct message *message, struct instance instance, enu
 }
 
 /* Nearest to right would be an output of no bytes, so each length is tried with that and with more. */
-static void short_sealed_texts(struct message *message, struct instance instance)
+static void short_sealed_texts(struct message *message, struct instance instance, enum operation operation,
+                               uint32_t answer)
 {
     for (size_t length = 0; length < tag_length(instance); length++)
         for (size_t out_len = 0; out_len <= tag_length(instance); out_len += tag_length(instance))
-            if (case_begins("refusal open %u %u short %zu to %zu", instance.width, instance.rounds, length, out_len)) {
-                struct call call = good_call(message, instance, OPEN);
+            if (case_begins("refusal %s %u %u short %zu to %zu", operation_name(operation), instance.width,
+                            instance.rounds, length, out_len)) {
+                struct call call = good_call(message, instance, operation);
 
                 call.body.length = length;
                 call.out_len = out_len;
-                compare_call(&call, TOO_SHORT);
+                compare_call(&call, answer);
             }
 }
 
@@ -113,9 +119,22 @@ void single_refusals(struct message *message)
     for (int i = 0; i < INSTANCES; i++) {
         for (enum operation operation = SEAL; operation <= OPEN; operation++) {
             numbers(message, instances[i], operation);
-            key_and_nonce(message, instances[i], operation);
+            key_and_nonce(message, instances[i], operation, tag_length(instances[i]));
             outputs(message, instances[i], operation);
         }
-        short_sealed_texts(message, instances[i]);
+        short_sealed_texts(message, instances[i], OPEN, TOO_SHORT);
+    }
+}
+
+void single_refusals_of_segments(struct message *message)
+{
+    family_begins("single refusals of segments");
+    for (int i = 0; i < INSTANCES; i++) {
+        for (enum operation operation = SEGMENT_SEAL; operation <= SEGMENT_OPEN; operation++) {
+            numbers(message, instances[i], operation);
+            key_and_nonce(message, instances[i], operation, job_nonce_length(instances[i]));
+            outputs(message, instances[i], operation);
+        }
+        short_sealed_texts(message, instances[i], SEGMENT_OPEN, BAD_SEGMENT);
     }
 }
