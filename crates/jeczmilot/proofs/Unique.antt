@@ -12,6 +12,12 @@ use Rattle.jeczmilot.proofs.norx_seal.Reads.{Post as Post-norx-seal}
 use Rattle.jeczmilot.proofs.norx_open.{signature as signature-norx-open}
 use Rattle.jeczmilot.proofs.norx_open.Kinds as kinds-norx-open
 use Rattle.jeczmilot.proofs.norx_open.Reads.{Post as Post-norx-open}
+use Rattle.jeczmilot.proofs.norx_segment_seal.{signature as signature-norx-segment-seal}
+use Rattle.jeczmilot.proofs.norx_segment_seal.Kinds as kinds-norx-segment-seal
+use Rattle.jeczmilot.proofs.norx_segment_seal.Reads.{Post as Post-norx-segment-seal}
+use Rattle.jeczmilot.proofs.norx_segment_open.{signature as signature-norx-segment-open}
+use Rattle.jeczmilot.proofs.norx_segment_open.Kinds as kinds-norx-segment-open
+use Rattle.jeczmilot.proofs.norx_segment_open.Reads.{Post as Post-norx-segment-open}
 
 pub one-norx-seal : (κs : Lfts 6) (a : ArgsD signature-norx-seal κs) (r r′ : ResD signature-norx-seal κs) (s s′ : AtExit (endedOf 6 kinds-norx-seal.ps kinds-norx-seal.r) κs)
     → Post-norx-seal κs a r s → Post-norx-seal κs a r′ s′ → (r ≡ r′) × (now (s .1 .1 .1 .1 .1 .1 .1 .0) ≡ now (s′ .1 .1 .1 .1 .1 .1 .1 .0))
@@ -20,3 +26,11 @@ one-norx-seal κs a r r′ s s′ p q = (p .0 ∙ sym (q .0), p .1 .0 ∙ sym (q
 pub one-norx-open : (κs : Lfts 6) (a : ArgsD signature-norx-open κs) (r r′ : ResD signature-norx-open κs) (s s′ : AtExit (endedOf 6 kinds-norx-open.ps kinds-norx-open.r) κs)
     → Post-norx-open κs a r s → Post-norx-open κs a r′ s′ → (r ≡ r′) × (now (s .1 .1 .1 .1 .1 .1 .1 .0) ≡ now (s′ .1 .1 .1 .1 .1 .1 .1 .0))
 one-norx-open κs a r r′ s s′ p q = (p .0 ∙ sym (q .0), p .1 .0 ∙ sym (q .1 .0))
+
+pub one-norx-segment-seal : (κs : Lfts 5) (a : ArgsD signature-norx-segment-seal κs) (r r′ : ResD signature-norx-segment-seal κs) (s s′ : AtExit (endedOf 5 kinds-norx-segment-seal.ps kinds-norx-segment-seal.r) κs)
+    → Post-norx-segment-seal κs a r s → Post-norx-segment-seal κs a r′ s′ → (r ≡ r′) × (now (s .1 .1 .1 .1 .1 .1 .1 .1 .1 .1 .0) ≡ now (s′ .1 .1 .1 .1 .1 .1 .1 .1 .1 .1 .0))
+one-norx-segment-seal κs a r r′ s s′ p q = (p .0 ∙ sym (q .0), p .1 ∙ sym (q .1))
+
+pub one-norx-segment-open : (κs : Lfts 5) (a : ArgsD signature-norx-segment-open κs) (r r′ : ResD signature-norx-segment-open κs) (s s′ : AtExit (endedOf 5 kinds-norx-segment-open.ps kinds-norx-segment-open.r) κs)
+    → Post-norx-segment-open κs a r s → Post-norx-segment-open κs a r′ s′ → (r ≡ r′) × (now (s .1 .1 .1 .1 .1 .1 .1 .1 .1 .1 .1 .0) ≡ now (s′ .1 .1 .1 .1 .1 .1 .1 .1 .1 .1 .1 .0))
+one-norx-segment-open κs a r r′ s s′ p q = (p .0 ∙ sym (q .0), p .1 ∙ sym (q .1))

@@ -1,10 +1,15 @@
-// The C host's library: sealing and opening in one call, on numbers and byte slices.
+// The C host's library: sealing and opening in one call, and segment by segment, on numbers and byte slices.
 ghost use mathlib.Core.Path.{_≡_};
 ghost use Rattle.norx.specs.Lent.{was};
 ghost use Rattle.answers.specs.Answers.{numberOf};
 ghost use Rattle.sealing.specs.Widths.{sealAnswerAt, sealOutAt, openAnswerAt, openOutAt};
 ghost use Rattle.sealing.specs.Promises.{SealsAt, OpensAt};
+ghost use Rattle.segments.specs.Segments.{segmentAnswerAt, segmentOutAt, takeAnswerAt, takeOutAt};
+ghost use Rattle.jeczmilot.specs.Numbers.{yes, termsOf, waitingOf};
 use answers::number;
+use cutting::Waiting;
+use places::terms::Edition;
+use places::terms::Terms;
 
 // Seals a body at the width given as a number; the answer is its number.
 #[no_mangle]
@@ -42,4 +47,78 @@ pub extern "C" fn norx_open(
     ensures promise { λ r. ⌜ OpensAt width rounds (was key) (was nonce) (was header) (was sealed) (was trailer) (was out) r (now (out .exit)) ⌝ }
 {
     number(sealing::open(width, rounds, key, nonce, header, sealed, trailer, out))
+}
+
+// Rounds, job and revision put together.
+fn terms(rounds: u32, job: u64, revision: u64) -> Terms
+    ensures { λ r. ⌜ r ≡ termsOf rounds job revision ⌝ }
+{
+    let edition = Edition { job, revision };
+    Terms { rounds, edition }
+}
+
+// Index and completeness put together; of complete, 0 is no and every other number yes.
+fn waiting(index: u64, complete: u32) -> Waiting
+    ensures { λ r. ⌜ r ≡ waitingOf index complete ⌝ }
+{
+    Waiting {
+        index,
+        complete: complete != 0,
+    }
+}
+
+// Seals a segment of a job at the width given as a number; of last, 0 is no and every other number yes. The answer is its number.
+#[no_mangle]
+pub extern "C" fn norx_segment_seal(
+    width: u32,
+    rounds: u32,
+    key: &[u8],
+    nonce: &[u8],
+    job: u64,
+    revision: u64,
+    note: &[u8],
+    index: u64,
+    last: u32,
+    body: &[u8],
+    out: &mut [u8],
+) -> u32
+    ensures answer { λ r. ⌜ r ≡ numberOf (segmentAnswerAt width (was key) (was nonce) (termsOf rounds job revision) (was note) index (yes last) (was body) (was out)) ⌝ }
+    ensures output { λ _. ⌜ now (out .exit) ≡ segmentOutAt width (was key) (was nonce) (termsOf rounds job revision) (was note) index (yes last) (was body) (was out) ⌝ }
+{
+    let terms = terms(rounds, job, revision);
+    number(segments::seal(width, key, nonce, terms, note, index, last != 0, body, out))
+}
+
+// Opens the segment of a job that is awaited, at the width given as a number; of complete and last, 0 is no and every other number yes. The answer is its number.
+#[no_mangle]
+pub extern "C" fn norx_segment_open(
+    width: u32,
+    rounds: u32,
+    key: &[u8],
+    nonce: &[u8],
+    job: u64,
+    revision: u64,
+    note: &[u8],
+    index: u64,
+    complete: u32,
+    last: u32,
+    sealed: &[u8],
+    out: &mut [u8],
+) -> u32
+    ensures answer { λ r. ⌜ r ≡ numberOf (takeAnswerAt width (was key) (was nonce) (termsOf rounds job revision) (was note) (waitingOf index complete) (yes last) (was sealed) (was out)) ⌝ }
+    ensures output { λ _. ⌜ now (out .exit) ≡ takeOutAt width (was key) (was nonce) (termsOf rounds job revision) (was note) (waitingOf index complete) (yes last) (was sealed) (was out) ⌝ }
+{
+    let terms = terms(rounds, job, revision);
+    let waiting = waiting(index, complete);
+    number(segments::open(
+        width,
+        key,
+        nonce,
+        terms,
+        note,
+        waiting,
+        last != 0,
+        sealed,
+        out,
+    ))
 }

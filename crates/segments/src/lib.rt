@@ -1,11 +1,15 @@
 // Segments of a job, each sealed by itself: sealed and opened at each width, and at a width that is given as a number; and receivers, which take them in order.
 ghost use mathlib.Core.Path.{_≡_};
 ghost use mathlib.Core.List.{_++_};
-ghost use Prim.Native.Nat.{_+_};
+ghost use Prim.Native.Nat.{_+_, _<_};
 ghost use lib.ListN.{length};
 ghost use Rattle.norx.specs.Lent.{was};
+ghost use Rattle.answers.specs.Answers.{numberOf};
+ghost use Rattle.rules.specs.Rules.{mostSegments};
+ghost use Rattle.cutting.specs.Cutting.{waitingNext};
 ghost use Rattle.segments.specs.Segments.{segmentAnswerAt, segmentOutAt, takeAnswerAt, takeOutAt};
 use answers::Answer;
+use answers::number;
 use cutting::Waiting;
 use places::terms::Terms;
 
@@ -22,6 +26,21 @@ pub(crate) fn join(first: &[u8], second: &[u8], out: &mut [u8])
     let n = first.len();
     bytes::copy(first, &mut out[0..n]);
     bytes::copy(second, &mut out[n..]);
+}
+
+// Where a receiver waits after an answer: for the next segment where that is 0, and complete where the one before it was the last.
+pub(crate) fn next(waiting: Waiting, answer: Answer, last: bool) -> Waiting
+    requires { ⌜ (numberOf answer ≡ 0 → waiting .index < mostSegments) ⌝ }
+    ensures { λ r. ⌜ r ≡ waitingNext waiting answer last ⌝ }
+{
+    if number(answer) == 0 {
+        Waiting {
+            index: waiting.index + 1,
+            complete: last,
+        }
+    } else {
+        waiting
+    }
 }
 
 // Seals a segment at the width given as a number; 11, and nothing changed, where the number is not 32 or 64.

@@ -1,0 +1,17 @@
+-- What the numbers of a C caller mean.
+-- Assumes nothing.
+use Prim.Native.Nat.{ℕ}
+use mathlib.Core.Bool.{Bool, not}
+use lib.Dec.{eqb}
+use Rattle.places.specs.declared.terms.Terms.{Terms}
+use Rattle.cutting.specs.declared.Waiting.{Waiting}
+
+-- 0 is no, and every other number yes
+abbrev pub yes : ℕ → Bool
+yes n = not (eqb n 0)
+
+abbrev pub termsOf : ℕ → ℕ → ℕ → Terms
+termsOf rounds job revision = record { rounds = rounds; edition = record { job = job; revision = revision } }
+
+abbrev pub waitingOf : ℕ → ℕ → Waiting
+waitingOf index complete = record { index = index; complete = yes complete }
