@@ -34,8 +34,9 @@ pub(crate) fn next(waiting: Waiting, answer: Answer, last: bool) -> Waiting
     ensures { λ r. ⌜ r ≡ waitingNext waiting answer last ⌝ }
 {
     if number(answer) == 0 {
+        let index = waiting.index + 1;
         Waiting {
-            index: waiting.index + 1,
+            index,
             complete: last,
         }
     } else {

@@ -13,8 +13,8 @@ use Rattle.cutting.specs.Cutting.{waitingNext}
 use Rattle.segments.proofs.next.Statement.{statement}
 use Rattle.segments.proofs.next.Tie as tie
 
-add-t7 : tie.Need-add-t7
-add-t7 c =
+add-index : tie.Need-add-index
+add-index c =
     let test = c .before in
     let x = test .before .before .args in
     let zero : numberOf (x .answer) ≡ 0 = sym (test .before .number .ensures) ∙ test .if1 .taken in
@@ -37,4 +37,4 @@ returns-2 c =
     sym (cond-false _ _ _ (ne-eqb (numberOf (x .answer)) 0 (λ zero. c .if1 .left (c .before .number .ensures ∙ zero))))
 
 pub next-spec : {M : Type 1} → statement M
-next-spec = tie.close (tie.spec (λ c κs. search needs) add-t7 returns returns-2)
+next-spec = tie.close (tie.spec (λ c κs. search needs) add-index returns returns-2)
