@@ -1,4 +1,4 @@
-# make: proves every crate, runs every program, shows two bad days replayed, and builds the C library.
+# make: proves every crate, runs every program, shows three days replayed, and builds the C library.
 # make test: the merge gate, and then the tests outside the proof.   make bench: the library beside a C implementation, and segments and a session beside one call.
 # make install PREFIX=..: the library, its header and a pkg-config file, for a C build to find.
 # Each crate, edit and test has one line; with V=1 all that the checker says is shown, and target/log keeps it.

@@ -1,6 +1,6 @@
 #!/bin/sh
 # Builds the C programs of the README, its first and its third C code, as they stand there, once with the archive and once against what
-# `make install` puts in place, and compares what they write with what the README says; the README's story with what the program replay must write;
+# `make install` puts in place, and compares what they write with what the README says; the README's stories with what the program replay must write;
 # and the README's Rattle code with the program example, which the gate proves and runs:
 #   tests/readme.sh [ARCHIVE]
 
@@ -40,12 +40,16 @@ export PKG_CONFIG_LIBDIR
 # shellcheck disable=SC2046
 try $(pkg-config --cflags --libs jeczmilot)
 
-awk '/^```/ { on = !on; plain = $0 == "```"; next } on && plain' README.md >target/tests/story.txt
-test -s target/tests/story.txt
-case $(cat crates/replay/stdout) in
-*"$(cat target/tests/story.txt)"*) echo "the README's story is of what the program replay writes" ;;
-*) echo "the README's story is not in crates/replay/stdout" && exit 1 ;;
-esac
+rm -f target/tests/story.*
+awk '/^```/ { on = !on; plain = $0 == "```"; if (on && plain) story++; next } on && plain { print >("target/tests/story." story) }' README.md
+test -s target/tests/story.1
+for story in target/tests/story.*; do
+    case $(cat crates/replay/stdout) in
+    *"$(cat "$story")"*) ;;
+    *) echo "the README's $story is not in crates/replay/stdout:" && cat "$story" && exit 1 ;;
+    esac
+done
+echo "the README's stories are of what the program replay writes"
 
 awk '/^```rust$/ { on = 1; next } /^```$/ { on = 0 } on' README.md >target/tests/readme.rt
 awk '/^\/\/ The key that both sides have/ { on = 1 } /^\/\/ Prints/ { exit } on' crates/example/src/main.rt | sed '$d' >target/tests/example.rt

@@ -62,6 +62,18 @@ impl Tally {
         say_number(self.unmixed_passed);
         say(b" passed.\n");
     }
+
+    pub(crate) fn print_segments(self) {
+        say(b"Of ");
+        say_number(self.mixed);
+        say(b" mixed jobs in segments ");
+        say_number(self.mixed_passed);
+        say(b" passed.\nOf ");
+        say_number(self.unmixed);
+        say(b" unmixed jobs in segments (with a refused one between) ");
+        say_number(self.unmixed_passed);
+        say(b" passed.\n");
+    }
 }
 
 fn one(yes: bool) -> u64 {

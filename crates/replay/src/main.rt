@@ -1,15 +1,19 @@
-// Two bad days, told call by call: what each call was offered, and what it answered.
+// Three days, told call by call: what each call was offered, and what it answered.
 mod customers;
+mod early;
 mod gateway;
 mod job;
 mod office;
 mod old_seal;
+mod room;
 mod story;
 mod told;
+mod tool;
 
 fn main() {
     accident_at_tool_4();
     two_customers();
+    served_early();
 }
 
 fn accident_at_tool_4() {
@@ -58,4 +62,17 @@ fn two_customers() {
     let falsely = customers::told_falsely(&text_7, &tag_7);
     let honest = customers::honest(&text_8, &tag_8);
     customers::conclude(then, truly | falsely, honest);
+}
+
+fn served_early() {
+    let mut body = room::segment();
+    let mut first = room::sealed_segment();
+    let mut last = [0u8; 56];
+    let mut old_last = [0u8; 56];
+    let mut old_again = [0u8; 56];
+    room::fill(&mut body, &early::LINE);
+    early::show_job();
+    early::seal_new(&body, &mut first, &mut last);
+    early::seal_old(&mut old_last, &mut old_again);
+    early::serve(&body, &first, &last, &old_last, &old_again);
 }

@@ -48,11 +48,16 @@ pub(crate) fn say_part(part: Part) {
 
 // The number of an answer and what it means, at the end of a line.
 pub(crate) fn say_answer(answer: Answer) {
+    say_result(answer);
+    say(b"\n");
+}
+
+// The same where the line goes on.
+pub(crate) fn say_result(answer: Answer) {
     say(b" -> ");
     say_number(number(answer) as u64);
     say(b", ");
     say_meaning(answer);
-    say(b"\n");
 }
 
 fn say_meaning(answer: Answer) {
@@ -70,5 +75,7 @@ fn say_meaning(answer: Answer) {
         Answer::TagDiffers => say(b"refused: the tag differs"),
         Answer::WidthNumber => say(b"refused: the width is not 32 or 64"),
         Answer::OtherJob => say(b"refused: not the session's job"),
+        Answer::SegmentLength => say(b"refused: not the length of that segment"),
+        Answer::AfterLast => say(b"refused: a segment after the last"),
     }
 }
