@@ -5,6 +5,7 @@ ghost use lib.ListN.{length};
 use crate::job::KEY;
 use crate::job::NOTE;
 use crate::job::fill;
+use crate::job::first_bytes;
 use crate::job::lay;
 use crate::job::part;
 use places::terms::Terms;
@@ -91,14 +92,6 @@ fn seal_segment(width: u32, terms: Terms, nonce: &[u8], index: u64, body: &[u8],
         body,
         first_bytes(out, body.len() + n),
     );
-}
-
-// The first n bytes, or all where there are fewer.
-pub(crate) fn first_bytes(out: &mut [u8], n: usize) -> &mut [u8] {
-    if n < out.len() {
-        return &mut out[0..n];
-    }
-    out
 }
 
 pub(crate) fn nonce(text: &[u8], width: u32) -> &[u8] {

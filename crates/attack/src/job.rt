@@ -1,10 +1,15 @@
-// The jobs that are mixed, and what each is sealed to: a message of the nonce, the ciphertext and the tag.
+// The jobs that are mixed, and what each is sealed to: a message of the ciphertext, and behind it nonce and tag, which have one length.
 use places::Label;
 use places::Part;
 use places::terms::Edition;
 use places::terms::Terms;
+use rules::w32;
+use rules::w64;
 
 pub(crate) const BODY: usize = 300;
+
+// The longest message, that of the wide words.
+pub(crate) const MESSAGE: usize = BODY + w64::ROW + w64::ROW;
 
 pub(crate) const ROUNDS: u32 = 4;
 
@@ -44,17 +49,27 @@ fn lay_first(out: &mut [u8], b: &[u8]) {
     }
 }
 
-// The nonce of a message at a width whose nonces and tags have row bytes.
-pub(crate) fn nonce(message: &[u8], row: usize) -> &[u8] {
-    part(message, 0, row)
+// The bytes of a message under that nonce.
+pub(crate) fn message_length(nonce: &[u8]) -> usize {
+    if nonce.len() == w64::ROW {
+        MESSAGE
+    } else {
+        BODY + w32::ROW + w32::ROW
+    }
 }
 
-pub(crate) fn text(message: &[u8], row: usize) -> &[u8] {
-    part(message, row, BODY)
+pub(crate) fn text(message: &[u8]) -> &[u8] {
+    part(message, 0, BODY)
 }
 
-pub(crate) fn tag(message: &[u8], row: usize) -> &[u8] {
-    part(rest(message, row), BODY, row)
+pub(crate) fn nonce(message: &[u8]) -> &[u8] {
+    let behind = rest(message, BODY);
+    part(behind, 0, behind.len() / 2)
+}
+
+pub(crate) fn tag(message: &[u8]) -> &[u8] {
+    let behind = rest(message, BODY);
+    rest(behind, behind.len() / 2)
 }
 
 // The bytes from a place on; none where the place is past the end.
@@ -71,6 +86,14 @@ pub(crate) fn part(b: &[u8], from: usize, n: usize) -> &[u8] {
     } else {
         behind
     }
+}
+
+// The first n bytes, or all where there are fewer.
+pub(crate) fn first_bytes(out: &mut [u8], n: usize) -> &mut [u8] {
+    if n < out.len() {
+        return &mut out[0..n];
+    }
+    out
 }
 
 pub(crate) fn terms(edition: Edition) -> Terms {

@@ -8,9 +8,8 @@ mod offers;
 mod order;
 mod random;
 mod served;
+mod sessions;
 mod tally;
-mod w32;
-mod w64;
 mod ways;
 
 use editions::Editions;
@@ -39,17 +38,17 @@ fn at_both_widths(editions: Editions, name: &[u8]) -> Tally {
 
 fn at_32_bits(editions: Editions, name: &[u8]) -> Tally {
     title(b"32-bit words, ", name, b", a nonce for each\n");
-    let apart = w32::attack(editions, &NONCE[0..16], &OTHER_NONCE[0..16]);
+    let apart = sessions::attack(editions, &NONCE[0..16], &OTHER_NONCE[0..16]);
     title(b"32-bit words, ", name, b", one nonce for both\n");
-    let shared = w32::attack(editions, &NONCE[0..16], &NONCE[0..16]);
+    let shared = sessions::attack(editions, &NONCE[0..16], &NONCE[0..16]);
     apart.plus(shared)
 }
 
 fn at_64_bits(editions: Editions, name: &[u8]) -> Tally {
     title(b"64-bit words, ", name, b", a nonce for each\n");
-    let apart = w64::attack(editions, &NONCE, &OTHER_NONCE);
+    let apart = sessions::attack(editions, &NONCE, &OTHER_NONCE);
     title(b"64-bit words, ", name, b", one nonce for both\n");
-    let shared = w64::attack(editions, &NONCE, &NONCE);
+    let shared = sessions::attack(editions, &NONCE, &NONCE);
     apart.plus(shared)
 }
 

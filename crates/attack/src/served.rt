@@ -1,12 +1,12 @@
 // A receiver, and what it has handed out beside the honest job: the attack's own record.
 ghost use mathlib.Core.Path.{_≡_};
 ghost use lib.ListN.{length};
-use crate::cut::first_bytes;
 use crate::cut::message;
 use crate::cut::nonce;
 use crate::cut::row;
 use crate::job::KEY;
 use crate::job::NOTE;
+use crate::job::first_bytes;
 use crate::job::part;
 use crate::tally::Tally;
 use answers::done;

@@ -1,9 +1,9 @@
--- `attack::w32::counted`: as many jobs are offered as the way has.
+-- `attack::sessions::counted`: as many jobs are offered as the way has.
 -- Assumes nothing.
 use Prim.Native.Nat.{_-_, _≤_}
 use borrow.Author.Needs.{needs}
-use Rattle.attack.proofs.w32.counted.Statement.{statement}
-use Rattle.attack.proofs.w32.counted.Tie as tie
+use Rattle.attack.proofs.sessions.counted.Statement.{statement}
+use Rattle.attack.proofs.sessions.counted.Tie as tie
 
 abbrev Inv-loop : tie.InvT-loop
 Inv-loop name way e own other t₀ x₀ count n₀ t x n = n ≤ count

@@ -1,9 +1,9 @@
--- `attack::w32::play`: sixteen pieces are offered.
+-- `attack::sessions::play`: sixteen pieces are offered.
 -- Assumes nothing.
 use Prim.Native.Nat.{_-_, _≤_}
 use borrow.Author.Needs.{needs}
-use Rattle.attack.proofs.w32.play.Statement.{statement}
-use Rattle.attack.proofs.w32.play.Tie as tie
+use Rattle.attack.proofs.sessions.play.Statement.{statement}
+use Rattle.attack.proofs.sessions.play.Tie as tie
 
 abbrev Inv-loop : tie.InvT-loop
 Inv-loop way m seed e own other run₀ x₀ p₀ run x p = p ≤ 16

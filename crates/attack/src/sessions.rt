@@ -1,15 +1,18 @@
-// Jobs sealed, and offered to checking sessions, at 32-bit words.
+// Jobs sealed, and offered to checking sessions, at either width; the length of a nonce says which.
 use crate::accepted::Accepted;
 use crate::editions::Editions;
 use crate::job::BODY;
 use crate::job::KEY;
 use crate::job::LINE;
+use crate::job::MESSAGE;
 use crate::job::NOTE;
 use crate::job::OTHER_LINE;
 use crate::job::TRAILER;
 use crate::job::fill;
+use crate::job::first_bytes;
 use crate::job::label;
 use crate::job::lay;
+use crate::job::message_length;
 use crate::job::nonce;
 use crate::job::part;
 use crate::job::tag;
@@ -26,18 +29,15 @@ use crate::ways::ending;
 use crate::ways::foreign_nonce;
 use crate::ways::jobs;
 use answers::done;
+use held::Held;
 use places::Part;
 use places::terms::Edition;
-use rules::w32::*;
-use session32::check::Checking;
-use session32::seal::Sealing;
+use rules::w64::ROW;
 use texts::same;
-
-const MESSAGE: usize = ROW + BODY + ROW;
 
 // A session, and what it accepted.
 struct Run {
-    session: Checking,
+    session: Held,
     accepted: Accepted,
 }
 
@@ -45,9 +45,10 @@ struct Run {
 pub(crate) fn attack(editions: Editions, nonce: &[u8], other_nonce: &[u8]) -> Tally {
     let mut own = [0u8; MESSAGE];
     let mut other = [0u8; MESSAGE];
+    let n = message_length(nonce);
     seal(editions.own, nonce, &LINE, &mut own);
     seal(editions.other, other_nonce, &OTHER_LINE, &mut other);
-    every_way(editions, &own, &other)
+    every_way(editions, part(&own, 0, n), part(&other, 0, n))
 }
 
 // Seals an edition into a message, by a sealing session.
@@ -56,17 +57,34 @@ fn seal(edition: Edition, nonce: &[u8], line: &[u8; 15], message: &mut [u8]) {
     let mut text = [0u8; BODY];
     let mut tag = [0u8; ROW];
     fill(&mut body, line);
-    let fresh = Sealing::start(&KEY[0..ROW], nonce, terms(edition));
-    let s = seal_part(fresh.session, edition, Part::Note, &NOTE, &mut [0u8; 0]);
+    let s = seal_part(
+        start(false, nonce, edition),
+        edition,
+        Part::Note,
+        &NOTE,
+        &mut [0u8; 0],
+    );
     let s = seal_part(s, edition, Part::Body, &body, &mut text);
     let s = seal_part(s, edition, Part::Trailer, &TRAILER, &mut [0u8; 0]);
-    s.close(edition, &mut tag);
-    lay(message, 0, nonce);
-    lay(message, ROW, &text);
-    lay(message, ROW + BODY, &tag);
+    s.close(edition, b"", first_bytes(&mut tag, nonce.len()));
+    lay_all(message, &text, nonce, &tag);
 }
 
-fn seal_part(s: Sealing, edition: Edition, part: Part, bytes: &[u8], out: &mut [u8]) -> Sealing {
+fn lay_all(message: &mut [u8], text: &[u8], nonce: &[u8], tag: &[u8]) {
+    let n = nonce.len();
+    lay(message, 0, text);
+    lay(message, BODY, nonce);
+    lay(message, BODY + n, part(tag, 0, n));
+}
+
+// A session of the width that the nonce says.
+fn start(check: bool, nonce: &[u8], edition: Edition) -> Held {
+    let key = part(&KEY, 0, nonce.len());
+    let step = Held::start(check, nonce.len() == ROW, key, nonce, terms(edition));
+    step.session
+}
+
+fn seal_part(s: Held, edition: Edition, part: Part, bytes: &[u8], out: &mut [u8]) -> Held {
     let step = s.piece(label(edition, part, 0), bytes, out);
     step.session
 }
@@ -128,16 +146,15 @@ fn play(way: Way, m: u32, seed: u64, e: Editions, own: &[u8], other: &[u8]) -> T
 // A session that has accepted the note, begun with the nonce of the one message or of the other.
 fn begun(way: Way, m: u32, edition: Edition, own: &[u8], other: &[u8]) -> Run {
     if foreign_nonce(way, m) {
-        begin(edition, nonce(other, ROW), own)
+        begin(edition, nonce(other), own)
     } else {
-        begin(edition, nonce(own, ROW), own)
+        begin(edition, nonce(own), own)
     }
 }
 
 fn begin(edition: Edition, given: &[u8], own: &[u8]) -> Run {
-    let step = Checking::start(&KEY[0..ROW], given, terms(edition));
-    let session = step.session;
-    let accepted = Accepted::none(same(given, nonce(own, ROW)));
+    let session = start(true, given, edition);
+    let accepted = Accepted::none(same(given, nonce(own)));
     let run = Run {
         session: session,
         accepted: accepted,
@@ -155,10 +172,10 @@ fn step(run: Run, way: Way, m: u32, p: u8, x: u64, e: Editions, own: &[u8], othe
         Part::Note => piece(run, said, of, o.offset, part(&NOTE, o.from, o.n), own),
         Part::Body => {
             if o.foreign_bytes {
-                let bytes = part(text(other, ROW), o.from, o.n);
+                let bytes = part(text(other), o.from, o.n);
                 piece(run, said, of, o.offset, bytes, own)
             } else {
-                let bytes = part(text(own, ROW), o.from, o.n);
+                let bytes = part(text(own), o.from, o.n);
                 piece(run, said, of, o.offset, bytes, own)
             }
         }
@@ -173,11 +190,11 @@ fn piece(run: Run, said: Edition, of: Part, offset: usize, bytes: &[u8], own: &[
     }
     let session = run.session;
     let accepted = run.accepted;
-    let step = session.piece(label(said, of, offset), bytes);
+    let step = session.piece(label(said, of, offset), bytes, &mut [0u8; 0]);
     let answer = step.answer;
     let next = step.session;
     if done(answer) {
-        let more = accepted.more(of, bytes, text(own, ROW));
+        let more = accepted.more(of, bytes, text(own));
         Run {
             session: next,
             accepted: more,
@@ -195,9 +212,9 @@ fn close(run: Run, end: End, e: Editions, own: &[u8], other: &[u8]) -> Tally {
     let ended = piece(run, e.own, Part::Trailer, 0, &TRAILER, own);
     let said = e.said(end.foreign_close);
     if end.foreign_tag {
-        verdict(ended, said, tag(other, ROW), !end.foreign_close, own)
+        verdict(ended, said, tag(other), !end.foreign_close, own)
     } else {
-        verdict(ended, said, tag(own, ROW), !end.foreign_close, own)
+        verdict(ended, said, tag(own), !end.foreign_close, own)
     }
 }
 
@@ -205,8 +222,8 @@ fn close(run: Run, end: End, e: Editions, own: &[u8], other: &[u8]) -> Tally {
 fn verdict(run: Run, said: Edition, given: &[u8], own_close: bool, own: &[u8]) -> Tally {
     let session = run.session;
     let accepted = run.accepted;
-    let step = session.close(said, given);
+    let step = session.close(said, given, &mut [0u8; 0]);
     let answer = step.answer;
-    let unmixed = accepted.whole() & own_close & same(given, tag(own, ROW));
+    let unmixed = accepted.whole() & own_close & same(given, tag(own));
     Tally::one_job(unmixed, done(answer))
 }
