@@ -58,10 +58,16 @@ pub(crate) fn nonce_length(width: u32) -> usize {
 pub(crate) fn seal(width: u32, terms: Terms, nonce: &[u8], line: &[u8; 15], text: &mut [u8]) {
     let mut body = body_room();
     fill(&mut body, line);
+    seal_body(width, terms, nonce, &body, text);
+}
+
+fn seal_body(width: u32, terms: Terms, nonce: &[u8], body: &[u8], text: &mut [u8]) {
+    let first = part(body, 0, SEGMENT);
+    let last = part(body, SEGMENT, REST);
     lay(text, 0, nonce);
-    lay(text, BODY_AT, &body);
-    lay_sealed(width, terms, nonce, 0, &body[0..SEGMENT], text, FIRST_AT);
-    lay_sealed(width, terms, nonce, 1, &body[SEGMENT..], text, LAST_AT);
+    lay(text, BODY_AT, body);
+    lay_sealed(width, terms, nonce, 0, first, text, FIRST_AT);
+    lay_sealed(width, terms, nonce, 1, last, text, LAST_AT);
 }
 
 // Seals a segment into a text, from a place on.

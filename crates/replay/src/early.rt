@@ -15,6 +15,7 @@ use crate::tool::is_right;
 use crate::tool::say_waiting;
 use crate::tool::start;
 use crate::tool::take;
+use places::terms::Edition;
 use segments::w64::seal;
 
 // The line of which the first segment is made.
@@ -40,23 +41,22 @@ pub(crate) fn show_job() {
 
 pub(crate) fn seal_new(body: &[u8], first: &mut [u8], last: &mut [u8]) {
     let end = second_half(&NEW);
-    let answer = seal(&KEY, &NONCE, terms(TWELVE), &NOTE, 0, false, body, first);
-    say(b"  7/12, segment 0");
-    say_answer(answer);
-    let answer = seal(&KEY, &NONCE, terms(TWELVE), &NOTE, 1, true, end, last);
-    say(b"  7/12, segment 1, the last");
-    say_answer(answer);
+    seal_told(TWELVE, &NONCE, 0, body, first, b"  7/12, segment 0");
+    seal_told(TWELVE, &NONCE, 1, end, last, b"  7/12, segment 1, the last");
 }
 
 pub(crate) fn seal_old(own: &mut [u8], again: &mut [u8]) {
-    seal_old_last(&OLD_NONCE, b"its own nonce", own);
-    seal_old_last(&NONCE, b"that of 7/12", again);
+    let end = second_half(&OLD);
+    say(b"  7/11, segment 1, the last, under");
+    seal_told(ELEVEN, &OLD_NONCE, 1, end, own, b" its own nonce");
+    say(b"  7/11, segment 1, the last, under");
+    seal_told(ELEVEN, &NONCE, 1, end, again, b" that of 7/12");
 }
 
-fn seal_old_last(nonce: &[u8], name: &[u8], sealed: &mut [u8]) {
-    let end = second_half(&OLD);
-    let answer = seal(&KEY, nonce, terms(ELEVEN), &NOTE, 1, true, end, sealed);
-    say(b"  7/11, segment 1, the last, under ");
+// Seals a segment, of which the second is the last.
+fn seal_told(edition: Edition, nonce: &[u8], index: u64, body: &[u8], out: &mut [u8], name: &[u8]) {
+    let terms = terms(edition);
+    let answer = seal(&KEY, nonce, terms, &NOTE, index, index == 1, body, out);
     say(name);
     say_answer(answer);
 }
