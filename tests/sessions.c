@@ -1,4 +1,4 @@
-/* Holds the program vectors to a model of sessions, on scripts made from a seed. */
+/* Holds the program vectors to a model of sessions and segments, on scripts made from a seed. */
 
 #include <inttypes.h>
 #include <stdio.h>

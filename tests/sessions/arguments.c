@@ -19,7 +19,7 @@ static bool read_number(uint64_t *number, struct bytes word, uint64_t most)
     for (size_t i = 0; i < word.length; i++) {
         unsigned digit = word.at[i] - (unsigned)'0';
 
-        if (digit > 9 || *number > (most - digit) / 10)
+        if (digit > 9 || digit > most || *number > (most - digit) / 10)
             return false;
         *number = 10 * *number + digit;
     }
@@ -85,6 +85,8 @@ bool read_argument(struct argument *argument, char form, struct bytes word)
         return read_number(&argument->number, word, UINT64_MAX);
     case 'n':
         return read_number(&argument->number, word, LONGEST_ARGUMENT);
+    case 'f':
+        return read_number(&argument->number, word, 1);
     case 'p':
         return read_name(&argument->number, word, 1);
     case 's':

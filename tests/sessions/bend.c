@@ -53,6 +53,9 @@ static void bend(struct maker *m, char form, struct word *word, struct buffer *c
     case 'n':
         word->number = PICK(&m->prng, 0, right - (right > 0), right + 1, right + 1, right / 2, any);
         break;
+    case 'f':
+        word->number = PICK(&m->prng, 1 - right, 1 - right, 1 - right, 2);
+        break;
     case 'p':
         word->number = prng_below(&m->prng, PARTS);
         break;

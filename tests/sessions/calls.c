@@ -2,32 +2,8 @@
 
 #include <inttypes.h>
 
-#include "language.h"
+#include "calls.h"
 #include "norx.h"
-
-enum { UNTOUCHED = 0xa5 };
-
-static uint8_t *lend_output(struct model *m, size_t length)
-{
-    m->output.length = 0;
-    buffer_fill(&m->output, UNTOUCHED, length);
-    return m->output.at;
-}
-
-static void write_answer(struct model *m, uint32_t answer)
-{
-    buffer_print(&m->reply, "%" PRIu32, answer);
-}
-
-static void write_output(struct model *m, uint32_t answer, bool is_known)
-{
-    write_answer(m, answer);
-    buffer_print(&m->reply, " ");
-    if (is_known || m->output.length == 0)
-        buffer_hex(&m->reply, bytes_of(&m->output));
-    else
-        buffer_fill(&m->reply, '.', 2 * m->output.length);
-}
 
 static void write_words(struct model *m, uint32_t width, const uint64_t words[16], bool are_known)
 {
@@ -61,12 +37,6 @@ static bool answer_one_call(struct model *m, const struct argument *a)
 
     write_output(m, answer, true);
     return true;
-}
-
-/* A job and a revision, which stand side by side wherever they stand. */
-static struct edition edition_at(const struct argument *a)
-{
-    return (struct edition){a[0].number, a[1].number};
 }
 
 static bool answer_start(struct model *m, const struct argument *a)
@@ -163,6 +133,8 @@ static const struct verb verbs[] = {
     {"sealing", "wibbuu", SEALING, answer_start},   {"checking", "wibbuu", CHECKING, answer_start},
     {"close", "uun", SEALING, answer_close},        {"check", "uub", CHECKING, answer_check},
     {"piece", "uupubn", SEALING, answer_piece},     {"put", "uuuiuus", SEALING, answer_put},
+    {"take", "bfbn", CHECKING, answer_take},        {"segment", "iibbuubufbn", SEALING, answer_segment},
+    {"await", "ufi", CHECKING, answer_await},       {"receiver", "wibbuu", CHECKING, answer_receiver},
 };
 
 const struct verb *find_verb(struct bytes name)

@@ -40,6 +40,7 @@ static bool answer_call(struct model *m, struct bytes line)
 void model_start(struct model *m)
 {
     session_clear(&m->session, SEALING, 64);
+    receiver_clear(&m->receiver, 64);
 }
 
 static bool is_echoed(struct bytes line)

@@ -25,13 +25,33 @@ struct bytes job_part(const struct job *job, enum kind kind, unsigned part);
 
 struct bytes job_tag(const struct job *job);
 
-/* Makes a script line by line, and lets the model answer each, so that it knows how the session stands. */
+/* A job that goes in segments: its message's body is not what is cut. */
+struct delivery {
+    struct job job;
+    struct buffer body;
+};
+
+/* One segment, most often a short one. */
+void delivery_make(struct delivery *delivery, struct prng *prng);
+
+/* Of the length and the setting whose turn it is, up to three segments. */
+void delivery_make_long(struct delivery *delivery, size_t turn, struct prng *prng);
+
+uint64_t delivery_segments(const struct delivery *delivery);
+
+/* The segment of this index, which is below their number. */
+struct segment delivery_segment(const struct delivery *delivery, uint64_t index);
+
+struct series delivery_series(const struct delivery *delivery);
+
+/* Makes a script line by line, and lets the model answer each, so that it knows how session and receiver stand. */
 struct maker {
     struct prng prng;
     struct model model;
     struct buffer *script, line;
     struct buffer spare, same; /* random bytes, and as many of one value */
     struct job job;
+    struct delivery delivery;
     size_t lines;
 };
 
@@ -42,7 +62,7 @@ bool chance(struct maker *maker, size_t in);
 
 struct bytes random_bytes(struct maker *maker, size_t length);
 
-/* A word of a call by its form: a number, part or standing, or bytes. */
+/* A word of a call by its form: a number, flag, part or standing, or bytes. */
 struct word {
     uint64_t number;
     struct bytes bytes;
@@ -62,5 +82,19 @@ void send_one_call(struct maker *maker, bool is_bent);
 
 /* Puts other numbers in place of the session's own, tries them, and most often puts those back. */
 void send_invented(struct maker *maker);
+
+/* Each sends a call on segments that should be done, or a bent one. */
+void send_segment(struct maker *maker, uint64_t index, bool is_bent);
+void send_receiver(struct maker *maker, bool is_bent);
+void send_take(struct maker *maker, bool is_bent);
+
+/* Seals under an index at an edge, most often a short segment that is flagged last. */
+void send_far_segment(struct maker *maker);
+
+/* Brings the receiver a text that was sealed for something else. */
+void send_stray(struct maker *maker);
+
+/* Lets the receiver wait for another index or with other rounds, tries that, and most often puts its own back. */
+void send_awaiting(struct maker *maker);
 
 #endif

@@ -11,7 +11,7 @@ size_t tag_length(uint32_t width)
     return width / 2;
 }
 
-static void add_number(struct buffer *buffer, uint64_t number)
+void add_number(struct buffer *buffer, uint64_t number)
 {
     for (int i = 0; i < 8; i++)
         buffer_fill(buffer, (uint8_t)(number >> 8 * i), 1);

@@ -10,7 +10,7 @@ enum { FRONT_BYTES = 16, LONGEST_TAG = 32 };
 /* The answers, from number 0 on. */
 enum {
     DONE, BAD_KEY_OR_NONCE, BAD_ROUNDS, BAD_TAG_LENGTH, OVER_LIMIT, BAD_OUTPUT, BAD_REVISION, EARLIER_PART, BAD_OFFSET,
-    NOT_SOUND, BAD_TAG, BAD_WIDTH, BAD_JOB, ANSWERS
+    NOT_SOUND, BAD_TAG, BAD_WIDTH, BAD_JOB, BAD_SEGMENT, AFTER_LAST, ANSWERS
 };
 
 extern const uint64_t part_limits[PARTS];
@@ -28,6 +28,9 @@ struct message {
 };
 
 size_t tag_length(uint32_t width);
+
+/* Eight bytes, least first. */
+void add_number(struct buffer *buffer, uint64_t number);
 
 /* Puts the bytes of the edition where the note begins. */
 void message_begin(struct message *message, struct edition edition);

@@ -1,10 +1,10 @@
-/* Scripts: sessions from start to close, with all that can go wrong on the way. */
+/* Scripts: sessions from start to close and jobs in segments, with all that can go wrong on the way. */
 
 #include "script.h"
 
 #include "maker.h"
 
-enum { LINES = 2500 };
+enum { LINES = 2500, SEGMENT_LINES = 500 };
 
 static bool all_is_taken(struct maker *m)
 {
@@ -67,11 +67,72 @@ static void sessions(struct buffer *script, struct prng prng)
     script->length--;
 }
 
+/* One call on segments or on the session held, which do not disturb each other. */
+static void segment_step(struct maker *m)
+{
+    size_t die = prng_below(&m->prng, 100);
+
+    if (die < 48)
+        send_take(m, false);
+    else if (die < 64)
+        send_take(m, true);
+    else if (die < 78)
+        send_stray(m);
+    else if (die < 86)
+        send_awaiting(m);
+    else if (die < 92)
+        send_far_segment(m);
+    else
+        step(m);
+}
+
+/* A job, sealed and then taken to its end or given up, and some calls behind it. */
+static void deliver(struct maker *m)
+{
+    size_t steps = 8 + prng_below(&m->prng, 8);
+
+    for (uint64_t index = 0; index < delivery_segments(&m->delivery); index++) {
+        if (chance(m, 3))
+            send_segment(m, index, true);
+        send_segment(m, index, false);
+    }
+    if (chance(m, 3))
+        send_start(m, chance(m, 2) ? SEALING : CHECKING, false);
+    if (chance(m, 4)) {
+        send_receiver(m, true);
+        send_awaiting(m);
+    }
+    send_receiver(m, false);
+    for (; steps > 0 && !m->model.receiver.is_complete; steps--)
+        segment_step(m);
+    for (size_t after = prng_below(&m->prng, 3); after > 0; after--)
+        segment_step(m);
+}
+
+/* One job is long: the calls of a whole segment are the dear ones. */
+static void segments(struct buffer *script, struct prng prng, size_t turn)
+{
+    static struct maker maker;
+
+    maker_start(&maker, script, prng);
+    delivery_make(&maker.delivery, &maker.prng);
+    segment_step(&maker);
+    delivery_make_long(&maker.delivery, turn, &maker.prng);
+    deliver(&maker);
+    while (maker.lines < SEGMENT_LINES) {
+        delivery_make(&maker.delivery, &maker.prng);
+        deliver(&maker);
+    }
+    script->length--;
+}
+
 void make_script(struct buffer *script, uint64_t seed, uint64_t number)
 {
     script->length = 0;
-    if (number == SCRIPTS)
+    if (number == LONG_LINES)
         long_lines(script);
+    else if (number > LONG_LINES)
+        segments(script, prng_start(seed, number), number);
     else
         sessions(script, prng_start(seed, number));
 }
