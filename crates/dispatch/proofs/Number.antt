@@ -5,6 +5,7 @@ use mathlib.Core.Path.{_≡_, _∙_}
 use borrow.Author.Tests.{eq-eqb, ne-eqb}
 use Rattle.answers.proofs.Tests.{cond-true, cond-false}
 use Rattle.dispatch.specs.Calls.{byNumber}
+use Rattle.dispatch.specs.Kept.{byJob}
 
 module _ {A : Type 0} (k : ℕ) (a b c d e f : A) where
   pub at-seals : k ≡ 1 → byNumber k a b c d e f ≡ a
@@ -30,3 +31,20 @@ module _ {A : Type 0} (k : ℕ) (a b c d e f : A) where
   pub at-closes : (k ≡ 1 → ⊥) → (k ≡ 2 → ⊥) → (k ≡ 3 → ⊥) → (k ≡ 4 → ⊥) → (k ≡ 5 → ⊥) → byNumber k a b c d e f ≡ f
   unfolding byNumber
   at-closes n1 n2 n3 n4 n5 = cond-false _ _ _ (ne-eqb k 1 n1) ∙ cond-false _ _ _ (ne-eqb k 2 n2) ∙ cond-false _ _ _ (ne-eqb k 3 n3) ∙ cond-false _ _ _ (ne-eqb k 4 n4) ∙ cond-false _ _ _ (ne-eqb k 5 n5)
+
+module _ {A : Type 0} (k : ℕ) (a b c d : A) where
+  pub at-segment : k ≡ 10 → byJob k a b c d ≡ a
+  unfolding byJob
+  at-segment h = cond-true _ _ _ (eq-eqb k 10 h)
+
+  pub at-receiver : (k ≡ 10 → ⊥) → k ≡ 11 → byJob k a b c d ≡ b
+  unfolding byJob
+  at-receiver n10 h = cond-false _ _ _ (ne-eqb k 10 n10) ∙ cond-true _ _ _ (eq-eqb k 11 h)
+
+  pub at-take : (k ≡ 10 → ⊥) → (k ≡ 11 → ⊥) → k ≡ 12 → byJob k a b c d ≡ c
+  unfolding byJob
+  at-take n10 n11 h = cond-false _ _ _ (ne-eqb k 10 n10) ∙ cond-false _ _ _ (ne-eqb k 11 n11) ∙ cond-true _ _ _ (eq-eqb k 12 h)
+
+  pub at-session : (k ≡ 10 → ⊥) → (k ≡ 11 → ⊥) → (k ≡ 12 → ⊥) → byJob k a b c d ≡ d
+  unfolding byJob
+  at-session n10 n11 n12 = cond-false _ _ _ (ne-eqb k 10 n10) ∙ cond-false _ _ _ (ne-eqb k 11 n11) ∙ cond-false _ _ _ (ne-eqb k 12 n12)

@@ -120,12 +120,12 @@ madeOut k a m h out = byNumber k (oneCallOut a m false out) (oneCallOut a m true
 
 -- ---- What else a program asks
 
--- whether the call of a number can be made on what is held: a start is at one of the two widths, a checking session takes no output,
+-- whether the call of a number can be made on what is held: a start of a session or a receiver is at one of the two widths, a checking session takes no output,
 -- and each kind is closed by a number of its own, 6 a sealing and 7 a checking session
 unfoldable pub isCall : ℕ → Words → Held → Bool
 isCall k a h =
-    (eqb k 1 || eqb k 2)
-    || ((eqb k 3 || eqb k 4) && (eqb (a .first) 32 || eqb (a .first) 64))
+    (eqb k 1 || eqb k 2 || eqb k 10 || eqb k 12)
+    || ((eqb k 3 || eqb k 4 || eqb k 11) && (eqb (a .first) 32 || eqb (a .first) 64))
     || (eqb k 5 && (not (h .check) || eqb (a .sixth) 0))
     || (eqb k 6 && not (h .check))
     || (eqb k 7 && h .check)

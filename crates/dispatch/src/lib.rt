@@ -12,10 +12,12 @@ use places::Standing;
 use places::terms::Edition;
 use places::terms::Terms;
 
+pub mod jobs;
+pub mod kept;
 mod w32;
 mod w64;
 
-// The words of a call, in their order: a number, or of a text the place in the memory where it ends; it begins where the one before it ended, the first at 0.
+// The words of a call, in their order: a number, or of a text the place in the memory where it ends; it begins where the text before it ended, the first at 0.
 pub struct Words {
     pub first: usize,
     pub second: usize,
@@ -25,6 +27,9 @@ pub struct Words {
     pub sixth: usize,
     pub seventh: usize,
     pub eighth: usize,
+    pub ninth: usize,
+    pub tenth: usize,
+    pub eleventh: usize,
 }
 
 // What one call does, and what a session is started for.
@@ -57,16 +62,16 @@ pub fn make(k: usize, a: Words, memory: &[u8], held: Held, out: &mut [u8]) -> He
     close(a, memory, held, out)
 }
 
-// Whether the call of a number can be made on what is held: a start is at one of the two widths, a checking session takes no output, and each kind is closed by a number of its own, 6 a sealing and 7 a checking session.
+// Whether the call of a number can be made on what is held: a start of a session or a receiver is at one of the two widths, a checking session takes no output, and each kind is closed by a number of its own, 6 a sealing and 7 a checking session.
 pub fn is_call(k: usize, a: Words, held: Held) -> bool
     ensures { λ r. ⌜ r ≡ isCall k a held ⌝ }
 {
-    let seals_or_opens = (k == 1) | (k == 2);
-    let starts = ((k == 3) | (k == 4)) & ((a.first == 32) | (a.first == 64));
+    let asks_nothing = (k == 1) | (k == 2) | (k == 10) | (k == 12);
+    let starts = ((k == 3) | (k == 4) | (k == 11)) & ((a.first == 32) | (a.first == 64));
     let offers = (k == 5) & (!held.check | (a.sixth == 0));
     let closes = (k == 6) & !held.check;
     let checks = (k == 7) & held.check;
-    seals_or_opens | starts | offers | closes | checks
+    asks_nothing | starts | offers | closes | checks
 }
 
 // Opens, or else seals: width, rounds, key, nonce, header, text, trailer.
@@ -169,7 +174,7 @@ pub fn constant(wide: bool, i: usize) -> u64
 }
 
 // The bytes from a place up to another; none where these are no places of the memory in that order.
-fn stretch(memory: &[u8], from: usize, to: usize) -> &[u8]
+pub(crate) fn stretch(memory: &[u8], from: usize, to: usize) -> &[u8]
     ensures { λ r. ⌜ now r ≡ stretchOf from to (was memory) ⌝ }
 {
     if memory.len() < to {
@@ -181,7 +186,7 @@ fn stretch(memory: &[u8], from: usize, to: usize) -> &[u8]
     &memory[from..to]
 }
 
-fn terms(rounds: usize, job: usize, revision: usize) -> Terms
+pub(crate) fn terms(rounds: usize, job: usize, revision: usize) -> Terms
     ensures { λ r. ⌜ r ≡ termsOf rounds job revision ⌝ }
 {
     let edition = edition(job, revision);
@@ -201,7 +206,7 @@ fn edition(job: usize, revision: usize) -> Edition
 }
 
 // A number's last 32 bits.
-fn low(n: usize) -> u32
+pub(crate) fn low(n: usize) -> u32
     ensures { λ r. ⌜ r ≡ lowOf n ⌝ }
 {
     (n % 4294967296) as u32

@@ -9,6 +9,7 @@ use places::closed_place;
 use places::terms::Edition;
 use places::terms::Terms;
 
+pub mod receiver;
 mod w32;
 mod w64;
 

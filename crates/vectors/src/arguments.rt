@@ -12,7 +12,7 @@ use crate::room::BYTES_MOST;
 use dispatch::Words;
 
 // The most words behind a call's name.
-const MOST: usize = 8;
+const MOST: usize = 11;
 
 const NONE: Words = Words {
     first: 0,
@@ -23,6 +23,9 @@ const NONE: Words = Words {
     sixth: 0,
     seventh: 0,
     eighth: 0,
+    ninth: 0,
+    tenth: 0,
+    eleventh: 0,
 };
 
 // What the words behind a call's name say, and of the length of an output besides whether one is lent; where in the line the next word begins, how far the memory is used, and whether all of it was right.
@@ -47,7 +50,10 @@ impl Arguments {
             fifth: w.sixth,
             sixth: w.seventh,
             seventh: w.eighth,
-            eighth: number,
+            eighth: w.ninth,
+            ninth: w.tenth,
+            tenth: w.eleventh,
+            eleventh: number,
         };
         self.words = words;
         self.right = self.right & right;
@@ -111,13 +117,18 @@ fn with(mut a: Arguments, kind: u8, word: &[u8], memory: &mut [u8]) -> Arguments
             a.lent = n.value;
             a.then(n.right, n.value)
         }
-        b'W' => {
-            let n = number(word, u32::MAX as usize);
-            a.then(n.right, n.value)
-        }
         _ => {
-            let n = number(word, usize::MAX);
+            let n = number(word, most(kind));
             a.then(n.right, n.value)
         }
+    }
+}
+
+// The largest number of a kind.
+fn most(kind: u8) -> usize {
+    match kind {
+        b'W' => u32::MAX as usize,
+        b'F' => 1,
+        _ => usize::MAX,
     }
 }

@@ -42,6 +42,7 @@ fn answered(k: usize, a: Arguments, memory: &[u8], run: Run) -> Run {
         0 => show::constants(a, run),
         8 => show::session(run),
         9 => show::put(a, run),
+        13 => show::put_receiver(a, run),
         _ => made::answered(k, a, memory, run),
     }
 }

@@ -1,6 +1,7 @@
 // The library's calls, made and their lines written.
 use crate::arguments::Arguments;
 use crate::call::no_call;
+use crate::names::TAKEN;
 use crate::parts::first;
 use crate::parts::part;
 use crate::room;
@@ -10,16 +11,24 @@ use answers::number;
 
 // A call that lends no output is told by its answer alone.
 pub(crate) fn answered(k: usize, a: Arguments, memory: &[u8], mut run: Run) -> Run {
-    let held = run.held;
+    let kept = run.kept;
     let words = a.words;
-    if !dispatch::is_call(k, words, held) {
+    if !dispatch::is_call(k, words, kept.session) {
         return no_call(run);
     }
     let mut out = room::out();
-    let step = dispatch::make(k, words, memory, held, first(&mut out, a.lent));
+    let step = dispatch::kept::call(k, words, memory, kept, first(&mut out, a.lent));
     let answer = step.answer;
-    let next = step.session;
-    run.held = next;
+    let next = step.kept;
+    run.kept = next;
+    if k == TAKEN {
+        return run.told(tell::taken(
+            number(answer),
+            part(&out, 0, a.lent),
+            next.receiver.waiting(),
+            run.is_quiet,
+        ));
+    }
     run.told(tell::output(
         number(answer),
         part(&out, 0, a.lent),

@@ -12,15 +12,21 @@ mod run;
 mod show;
 mod tell;
 
+use dispatch::kept::Kept;
 use held::Held;
+use held::receiver::HeldReceiver;
 use run::Run;
 
 // Answers every line, until the input ends, and with it a last line that has no newline, or a write fails. A proved loop has to end, so it counts its turns down from a number that no run uses up.
 fn main() {
     let mut chunk = io::large_buffer();
     let mut line = room::bytes();
+    let kept = Kept {
+        session: Held::closed(false, true),
+        receiver: HeldReceiver::none(true),
+    };
     let mut run = Run {
-        held: Held::closed(false, true),
+        kept,
         is_quiet: false,
         gathered: 0,
         goes_on: true,

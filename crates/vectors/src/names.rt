@@ -5,48 +5,59 @@ use places::Standing;
 use places::rank;
 use texts::same;
 
-// A row is a name and, of a call, the kinds of its words: W a number of 32 bits, R one of 64 bits, B bytes, P a part, S a standing, N the length of an output.
-pub(crate) type Row = [u8; 20];
+// A row is a name and, of a call, the kinds of its words: W a number of 32 bits, R one of 64 bits, B bytes, P a part, S a standing, F a flag (0 or 1), N the length of an output.
+pub(crate) type Row = [u8; 21];
 
-const CONSTANTS: Row = *b"constants W         ";
+const CONSTANTS: Row = *b"constants W          ";
 
-const SEAL: Row = *b"seal      WWBBBBBN  ";
+const SEAL: Row = *b"seal      WWBBBBBN   ";
 
-const OPEN: Row = *b"open      WWBBBBBN  ";
+const OPEN: Row = *b"open      WWBBBBBN   ";
 
-const SEALING: Row = *b"sealing   WWBBRR    ";
+const SEALING: Row = *b"sealing   WWBBRR     ";
 
-const CHECKING: Row = *b"checking  WWBBRR    ";
+const CHECKING: Row = *b"checking  WWBBRR     ";
 
-const PIECE: Row = *b"piece     RRPRBN    ";
+const PIECE: Row = *b"piece     RRPRBN     ";
 
-const CLOSE: Row = *b"close     RRN       ";
+const CLOSE: Row = *b"close     RRN        ";
 
-const CHECK: Row = *b"check     RRB       ";
+const CHECK: Row = *b"check     RRB        ";
 
-const SHOW: Row = *b"show                ";
+const SHOW: Row = *b"show                 ";
 
-const PUT: Row = *b"put       RRRWRRS   ";
+const PUT: Row = *b"put       RRRWRRS    ";
 
-const CLOSED: Row = *b"closed              ";
+const SEGMENT: Row = *b"segment   WWBBRRBRFBN";
 
-const NOTE: Row = *b"note                ";
+const RECEIVER: Row = *b"receiver  WWBBRR     ";
 
-const BODY: Row = *b"body                ";
+const TAKE: Row = *b"take      BFBN       ";
 
-const TRAILER: Row = *b"trailer             ";
+const AWAIT: Row = *b"await     RFW        ";
 
-const NO_CALL: Row = [b' '; 20];
+const CLOSED: Row = *b"closed               ";
+
+const NOTE: Row = *b"note                 ";
+
+const BODY: Row = *b"body                 ";
+
+const TRAILER: Row = *b"trailer              ";
+
+const NO_CALL: Row = [b' '; 21];
 
 // Where the words behind a name begin in its row.
 pub(crate) const WORDS: usize = 10;
 
+// The row of the call that takes a segment.
+pub(crate) const TAKEN: usize = 12;
+
 // Where the standings and the parts begin among the rows, and where they end; the calls come first.
-pub(crate) const STANDINGS: usize = 10;
+pub(crate) const STANDINGS: usize = 14;
 
-pub(crate) const PARTS: usize = 11;
+pub(crate) const PARTS: usize = 15;
 
-pub(crate) const END: usize = 14;
+pub(crate) const END: usize = 18;
 
 pub(crate) fn row(k: usize) -> Row {
     match k {
@@ -60,10 +71,14 @@ pub(crate) fn row(k: usize) -> Row {
         7 => CHECK,
         8 => SHOW,
         9 => PUT,
-        10 => CLOSED,
-        11 => NOTE,
-        12 => BODY,
-        13 => TRAILER,
+        10 => SEGMENT,
+        11 => RECEIVER,
+        12 => TAKE,
+        13 => AWAIT,
+        14 => CLOSED,
+        15 => NOTE,
+        16 => BODY,
+        17 => TRAILER,
         _ => NO_CALL,
     }
 }

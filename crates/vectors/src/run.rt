@@ -1,10 +1,10 @@
 // The run so far.
-use held::Held;
+use dispatch::kept::Kept;
 use libc::STDERR_FILENO;
 
-// The session that is held, whether the line that is answered is a quiet one, how many bytes of the line that is being read are gathered, and whether the run goes on: the input has not ended, and all lines so far were written.
+// The session and the receiver that are kept, whether the line that is answered is a quiet one, how many bytes of the line that is being read are gathered, and whether the run goes on: the input has not ended, and all lines so far were written.
 pub(crate) struct Run {
-    pub held: Held,
+    pub kept: Kept,
     pub is_quiet: bool,
     pub gathered: usize,
     pub goes_on: bool,

@@ -1,4 +1,4 @@
-// The calls that look at numbers or put them: the constants, and the session that is held. Each writes its line.
+// The calls that look at numbers or put them: the constants, and the session and the receiver that are held. Each writes its line.
 use crate::arguments::Arguments;
 use crate::call::no_call;
 use crate::run::Run;
@@ -32,7 +32,8 @@ pub(crate) fn session(run: Run) -> Run {
     if run.is_quiet {
         return run.told(tell::answer(0));
     }
-    let held = run.held;
+    let kept = run.kept;
+    let held = kept.session;
     let place = held.place;
     run.told(tell::byte(b'0') & tell_words(held) & tell::place(place) & tell::byte(b'\n'))
 }
@@ -51,8 +52,19 @@ fn tell_words(held: Held) -> bool {
 // NOTE BODY TRAILER L JOB REVISION STANDING.
 pub(crate) fn put(a: Arguments, mut run: Run) -> Run {
     let words = a.words;
-    let held = run.held;
-    let next = dispatch::put(words, held);
-    run.held = next;
+    let mut kept = run.kept;
+    let next = dispatch::put(words, kept.session);
+    kept.session = next;
+    run.kept = kept;
+    run.told(tell::answer(0))
+}
+
+// INDEX COMPLETE L.
+pub(crate) fn put_receiver(a: Arguments, mut run: Run) -> Run {
+    let words = a.words;
+    let mut kept = run.kept;
+    let next = dispatch::jobs::put(words, kept.receiver);
+    kept.receiver = next;
+    run.kept = kept;
     run.told(tell::answer(0))
 }

@@ -3,6 +3,7 @@ use crate::names::name;
 use crate::names::row_of;
 use crate::parts::part;
 use crate::room;
+use cutting::Waiting;
 use libc::STDOUT_FILENO;
 use places::Place;
 
@@ -21,7 +22,23 @@ pub(crate) fn output(number: u32, out: &[u8], is_quiet: bool) -> bool {
     if is_quiet {
         return answer(number);
     }
-    io::print_decimal(STDOUT_FILENO, number as u64) & byte(b' ') & bytes(out) & byte(b'\n')
+    answer_and_output(number, out) & byte(b'\n')
+}
+
+// The line of a segment that is taken: behind its output where the receiver waits now; where it is quiet, the answer alone.
+pub(crate) fn taken(number: u32, out: &[u8], waiting: Waiting, is_quiet: bool) -> bool {
+    if is_quiet {
+        return answer(number);
+    }
+    let complete = if waiting.complete { 1 } else { 0 };
+    answer_and_output(number, out)
+        & next_number(waiting.index as usize)
+        & next_number(complete)
+        & byte(b'\n')
+}
+
+fn answer_and_output(number: u32, out: &[u8]) -> bool {
+    io::print_decimal(STDOUT_FILENO, number as u64) & byte(b' ') & bytes(out)
 }
 
 // Bytes in hexadecimal, as many as an output may have; `-` for none.

@@ -8,10 +8,10 @@ use Rattle.vectors.proofs.arguments.read.Statement.{statement}
 use Rattle.vectors.proofs.arguments.read.Tie as tie
 
 abbrev Inv-loop : tie.InvT-loop
-Inv-loop line at memory₀ row a₀ k₀ memory a k = (k ≤ 8) × (length memory ≡ length memory₀)
+Inv-loop line at memory₀ row a₀ k₀ memory a k = (k ≤ 11) × (length memory ≡ length memory₀)
 
 abbrev μ-loop : tie.MeasureT-loop
-μ-loop line at memory₀ row a₀ k₀ memory a k = 8 - k
+μ-loop line at memory₀ row a₀ k₀ memory a k = 11 - k
 
 pub read-spec : {M : Type 1} → statement M
 read-spec =
