@@ -62,7 +62,7 @@
  *     on 0                  adds 1 to the index; and if that segment was flagged last, the job is complete
  *     on any other answer   keeps both as they were, and waits for the same index again
  *   A segment that is offered as of another index, flag, job, revision or note is answered 13 where its length is wrong
- *   for that index and flag, and else 10. So the flag, which goes beside the sealed text, cannot lie.
+ *   for that index and flag, and else 10: a lie about the flag, which goes beside the sealed text, is seen by the tag.
  *   A host may also open segments out of order or on several threads, for none needs another. It must then see to it by
  *   itself that it has each index once, from 0 to the one flagged last, before it calls the job complete.
  *

@@ -188,12 +188,15 @@ static void measure(struct line *line, int turn)
     }
 }
 
-static void print_work(const struct line *line, const char *work, enum way one_call, enum way in_segments)
+/* Whether the bound is kept. */
+static int print_work(const struct line *line, const char *work, enum way one_call, enum way in_segments)
 {
     double megabytes = (double)JOB_BYTES / 1e6, ratio = line->seconds[in_segments] / line->seconds[one_call];
+    int kept = ratio <= most_of_one_call;
 
     printf("%5" PRIu32 "  %s %14.1f %14.1f %6.3f  %s\n", line->width, work, megabytes / line->seconds[one_call],
-           megabytes / line->seconds[in_segments], ratio, ratio <= most_of_one_call ? "kept" : "NOT kept");
+           megabytes / line->seconds[in_segments], ratio, kept ? "kept" : "NOT kept");
+    return kept;
 }
 
 static void print_gain(const struct line *line)
@@ -201,23 +204,27 @@ static void print_gain(const struct line *line)
     double megabytes = (double)JOB_BYTES / 1e6, gain = line->seconds[SEGMENTS_OPEN] / line->seconds[THREADS_OPEN];
 
     printf("%5" PRIu32 "  open %14.1f %14.1f %6.3f  %s\n", line->width, megabytes / line->seconds[SEGMENTS_OPEN],
-           megabytes / line->seconds[THREADS_OPEN], gain, gain >= least_gain ? "kept" : "NOT kept");
+           megabytes / line->seconds[THREADS_OPEN], gain, gain >= least_gain ? "reached" : "not reached");
 }
 
-static void print_lines(void)
+/* Whether segments cost no more than they may; the gain of threads depends on what else the cores do, and is not judged. */
+static int print_lines(void)
 {
+    int kept = 1;
+
     printf("a job of 16 MiB in %d segments beside one call, 4 rounds: the ratio of their times, at most %.2f\n",
            SEGMENTS, most_of_one_call);
     printf("width  work  one call MB/s  segments MB/s  ratio\n");
     for (int i = 0; i < LINES; i++) {
-        print_work(&lines[i], "seal", WHOLE_SEAL, SEGMENTS_SEAL);
-        print_work(&lines[i], "open", WHOLE_OPEN, SEGMENTS_OPEN);
+        kept &= print_work(&lines[i], "seal", WHOLE_SEAL, SEGMENTS_SEAL);
+        kept &= print_work(&lines[i], "open", WHOLE_OPEN, SEGMENTS_OPEN);
     }
-    printf("its segments on %d threads, each taking every second one: the gain on two cores, at least %.1f\n", THREADS,
+    printf("its segments on %d threads, each taking every second one: the gain on two cores, %.1f is the goal\n", THREADS,
            least_gain);
     printf("width  work   1 thread MB/s %d threads MB/s   gain\n", THREADS);
     for (int i = 0; i < LINES; i++)
         print_gain(&lines[i]);
+    return kept;
 }
 
 int main(void)
@@ -236,6 +243,5 @@ int main(void)
     for (begin = now(); turn < LEAST_TURNS || now() - begin < run_seconds; turn++)
         for (int i = 0; i < LINES; i++)
             measure(&lines[i], turn);
-    print_lines();
-    return 0;
+    return print_lines() ? 0 : 1;
 }
