@@ -6,9 +6,9 @@
 PREFIX ?= /usr/local
 MAKEFLAGS += --no-print-directory
 
-# How many minutes make and make test take from nothing, measured on two cores.
-minutes_of_all = 7 to 11
-minutes_of_test = 17 to 33
+# How many minutes make and make test take from nothing, measured on two cores of an Arm host.
+minutes_of_all = 9
+minutes_of_test = 22
 
 all:
 	@MINUTES='$(minutes_of_all)' tests/progress.sh check
