@@ -16,12 +16,14 @@ enum { JOB_BYTES = JECZMILOT_BODY_LIMIT, SEGMENTS = JOB_BYTES / JECZMILOT_SEGMEN
 
 enum { THREADS = 2, LEAST_TURNS = 5 };
 
-static const double run_seconds = 30;
+/* For the ways without threads, and then for those beside them. */
+static const double run_seconds = 20, threads_seconds = 15;
 
 /* What segments may cost of one call, and what two threads should gain. */
 static const double most_of_one_call = 1.05, least_gain = 1.9;
 
-enum way { WHOLE_SEAL, SEGMENTS_SEAL, WHOLE_OPEN, SEGMENTS_OPEN, THREADS_OPEN, WAYS };
+/* Those beside threads come last: an emulator works otherwise once there was a second thread. */
+enum way { WHOLE_SEAL, SEGMENTS_SEAL, WHOLE_OPEN, SEGMENTS_OPEN, ONE_THREAD_OPEN, THREADS_OPEN, WAYS };
 
 /* The best seconds that each way took. */
 struct line {
@@ -144,6 +146,7 @@ static void go(enum way way, uint32_t width)
         open_whole(width);
         break;
     case SEGMENTS_OPEN:
+    case ONE_THREAD_OPEN:
         open_some(width, 0, 1);
         break;
     default:
@@ -151,8 +154,8 @@ static void go(enum way way, uint32_t width)
     }
 }
 
-/* Every segment is what the reference seals, and each way of opening gives the whole job. */
-static void check(uint32_t width)
+/* Every segment is what the reference seals. */
+static void check_sealing(uint32_t width)
 {
     static uint8_t expected[JECZMILOT_SEGMENT_BYTES + LONGEST_TAG];
     size_t tag = width / 2;
@@ -164,21 +167,25 @@ static void check(uint32_t width)
                                expected, JECZMILOT_SEGMENT_BYTES + tag);
         demand(memcmp(expected, segments[i], JECZMILOT_SEGMENT_BYTES + tag) == 0, "a segment is sealed differently");
     }
-    seal_whole(width);
-    for (enum way way = WHOLE_OPEN; way < WAYS; way++) {
-        memset(out, 1, sizeof out);
-        go(way, width);
-        demand(memcmp(out, body, sizeof body) == 0, "the opened job is another");
-    }
 }
 
-/* All ways take a turn; they begin with another one each time. */
-static void measure(struct line *line, int turn)
+/* That way of opening gives the whole job. */
+static void check_opening(uint32_t width, enum way way)
+{
+    seal_whole(width);
+    seal_segments(width);
+    memset(out, 1, sizeof out);
+    go(way, width);
+    demand(memcmp(out, body, sizeof body) == 0, "the opened job is another");
+}
+
+/* The ways from one up to another each take a turn; they begin with another one each time. */
+static void measure(struct line *line, int turn, int from, int to)
 {
     seal_whole(line->width);
     seal_segments(line->width);
-    for (int i = 0; i < WAYS; i++) {
-        enum way way = (enum way)((turn + i) % WAYS);
+    for (int i = 0; i < to - from; i++) {
+        enum way way = (enum way)(from + (turn + i) % (to - from));
         double begin = now(), seconds;
 
         go(way, line->width);
@@ -201,9 +208,9 @@ static int print_work(const struct line *line, const char *work, enum way one_ca
 
 static void print_gain(const struct line *line)
 {
-    double megabytes = (double)JOB_BYTES / 1e6, gain = line->seconds[SEGMENTS_OPEN] / line->seconds[THREADS_OPEN];
+    double megabytes = (double)JOB_BYTES / 1e6, gain = line->seconds[ONE_THREAD_OPEN] / line->seconds[THREADS_OPEN];
 
-    printf("%5" PRIu32 "  open %14.1f %14.1f %6.3f  %s\n", line->width, megabytes / line->seconds[SEGMENTS_OPEN],
+    printf("%5" PRIu32 "  open %14.1f %14.1f %6.3f  %s\n", line->width, megabytes / line->seconds[ONE_THREAD_OPEN],
            megabytes / line->seconds[THREADS_OPEN], gain, gain >= least_gain ? "reached" : "not reached");
 }
 
@@ -227,21 +234,31 @@ static int print_lines(void)
     return kept;
 }
 
+static void measure_for(double seconds, int from, int to)
+{
+    double begin = now();
+
+    for (int turn = 0; turn < LEAST_TURNS || now() - begin < seconds; turn++)
+        for (int i = 0; i < LINES; i++)
+            measure(&lines[i], turn, from, to);
+}
+
 int main(void)
 {
-    double begin;
-    int turn = 0;
-
     for (size_t i = 0; i < sizeof body; i++)
         body[i] = (uint8_t)(i * 151 >> 3);
     memset(key, 2, sizeof key);
     memset(nonce, 3, sizeof nonce);
-    for (int i = 0; i < LINES; i++)
-        check(lines[i].width);
-    printf("measuring segments for about %.0f s\n", run_seconds);
+    printf("measuring segments for about %.0f s\n", run_seconds + threads_seconds);
     fflush(stdout);
-    for (begin = now(); turn < LEAST_TURNS || now() - begin < run_seconds; turn++)
-        for (int i = 0; i < LINES; i++)
-            measure(&lines[i], turn);
+    for (int i = 0; i < LINES; i++) {
+        check_sealing(lines[i].width);
+        check_opening(lines[i].width, WHOLE_OPEN);
+        check_opening(lines[i].width, SEGMENTS_OPEN);
+    }
+    measure_for(run_seconds, WHOLE_SEAL, ONE_THREAD_OPEN);
+    for (int i = 0; i < LINES; i++)
+        check_opening(lines[i].width, THREADS_OPEN);
+    measure_for(threads_seconds, ONE_THREAD_OPEN, WAYS);
     return print_lines() ? 0 : 1;
 }
