@@ -1,5 +1,5 @@
 # make: proves every crate, runs every program, shows three days replayed, and builds the C library.
-# make test: the merge gate, and then the tests outside the proof.   make bench: the library beside a C implementation, and segments and a session beside one call.
+# make test: the merge gate, and then the tests outside the proof.   make bench: the library and its lists beside a C implementation, and segments and a session beside one call.
 # make install PREFIX=..: the library, its header and a pkg-config file, for a C build to find.
 # Each crate, edit and test has one line; with V=1 all that the checker says is shown, and target/log keeps it.
 .PHONY: all library install test outside bench clean
@@ -8,7 +8,7 @@ MAKEFLAGS += --no-print-directory
 
 # How many minutes make and make test take from nothing, measured on two cores of an Arm host.
 minutes_of_all = 9
-minutes_of_test = 22
+minutes_of_test = 24
 
 all:
 	@MINUTES='$(minutes_of_all)' tests/progress.sh check

@@ -1,7 +1,8 @@
 /* Jeczmilot: sealing and opening of machine jobs with NORX 3.0, parallelism 1 (the plain form, one block after another).
  *
- * Four calls: two for a whole job, and two for a segment of one. Each ends with an answer, for any numbers and bytes
- * given to it; nothing is asked beforehand but what "Buffers" below says. Look at the answer before anything else.
+ * Seven calls: two for a whole job, two for a segment of one, and three for the list of its segments. Each ends with an
+ * answer, for any numbers and bytes given to it; nothing is asked beforehand but what "Buffers" below says. Look at the
+ * answer before anything else.
  *
  * WIDTHS           32-bit words    64-bit words
  *   width               32              64        given as a number; any other is answered 11
@@ -17,10 +18,10 @@
  *   sealed text          the body's ciphertext, as long as the body, followed by the tag
  *   out of norx_seal     exactly body_len + tag
  *   out of norx_open     exactly sealed_len - tag
- *   "Segments" below has the lengths of a segment and of its note.
+ *   "Segments" below has the lengths of a segment and of its note, and "Lists" those of a list.
  *
  * ANSWERS, the first that applies in the order of the lines here
- *    0  done: out holds the sealed text, or the message
+ *    0  done: out holds the sealed text, the message, or the list
  *   11  the width is neither 32 nor 64                   out is unchanged
  *   14  the job is complete: a segment after the last    out is unchanged   (norx_segment_open)
  *   13  the segment has not the length of its index and
@@ -37,7 +38,10 @@
  *   norx_open                11, 2, 1, 3, 4, 5, 10
  *   norx_segment_seal        11, 13, 2, 1, 4, 5
  *   norx_segment_open        11, 14, 13, 2, 1, 4, 5, 10
- * A sealed segment that is shorter than a tag is answered 13, and never 3; of a segment 4 is for the note alone.
+ *   norx_list_write          4, 5
+ * A sealed segment that is shorter than a tag is answered 13, and never 3; of a segment 4 is for the note alone, and of
+ * a list for the body, which has another limit there ("Lists").
+ * norx_list_length gives a length, and norx_list_read what it read, with the number of a bad line in place of an answer.
  * The numbers 6 to 9 and 12 are for sessions and are never given by these calls.
  *
  * SEGMENTS
@@ -66,6 +70,27 @@
  *   A host may also open segments out of order or on several threads, for none needs another. It must then see to it by
  *   itself that it has each index once, from 0 to the one flagged last, before it calls the job complete.
  *
+ * LISTS
+ *   A list says as plain text which segments a job has, so that people can read it, and programs can read it back. Each
+ *   segment has a line, and there is no heading. The list of job 7, revision 3, of 65,636 bytes is
+ *     7<tab>3<tab>0<tab>65536
+ *     7<tab>3<tab>1<tab>100
+ *   Numbers are decimal, without signs and without leading zeros; one tab, byte 9, stands between two of them, and every
+ *   line ends in one newline, byte 10, the last line too. A line has
+ *     job, revision   0 to 18,446,744,073,709,551,615 each, the same in every line
+ *     index           0 in the first line, and in each line one more than in the line before
+ *     length          the bytes of the segment's body: 65,536, and in the last line 1 to 65,536; the list of an empty
+ *                     job is one line, with length 0
+ *   A list has at most 1,048,576 lines, so its job at most 68,719,476,736 bytes, and the list at most 57,609,146.
+ *   out of norx_list_write has exactly norx_list_length bytes.
+ *   norx_list_read takes exactly the texts that norx_list_write can write, and gives their numbers. Of any other text it
+ *   says the first bad line: the lowest number n, from 1, for which the first n lines are not a list by themselves. So
+ *     an empty text is bad at line 1;
+ *     a last line that has no newline is bad;
+ *     a line behind one of less than 65,536 bytes is bad, and not that one, which could have been the last;
+ *     a line behind 1,048,576 good ones is bad.
+ *   The first lines of a list are a list, of a shorter job: a list does not show that it is whole.
+ *
  * SESSIONS
  *   Sealing and checking piece by piece is there for Rattle programs, and not for C. norx_seal and norx_open take their
  *   header as it is given, and know no job and no revision. A session is for one job and one revision of it, and may
@@ -93,7 +118,8 @@
  * WHAT IT DOES NOT DO
  *   Whoever uses one nonce twice under one key loses secrecy: choose a nonce, or a job nonce, that was never used with
  *   that key. An old text, given again whole, still opens. Tags are compared to the last byte, but nothing is promised
- *   against an attacker who measures time. Keys are not stored, and not erased from memory.
+ *   against an attacker who measures time. Keys are not stored, and not erased from memory. A list is not sealed:
+ *   whoever can write to it can make another list of it.
  */
 #ifndef JECZMILOT_H
 #define JECZMILOT_H
@@ -105,7 +131,7 @@
 extern "C" {
 #endif
 
-#define JECZMILOT_VERSION "0.4"
+#define JECZMILOT_VERSION "0.5"
 
 /* The answers. */
 #define JECZMILOT_DONE 0
@@ -141,6 +167,10 @@ extern "C" {
 /* The bytes of every segment but the last, which has at most as many; and the most segments of a job. */
 #define JECZMILOT_SEGMENT_BYTES 65536
 #define JECZMILOT_SEGMENTS_LIMIT 1048576
+
+/* The most bytes of a body that has a list, and of a list. */
+#define JECZMILOT_LIST_BODY_LIMIT UINT64_C(68719476736)
+#define JECZMILOT_LIST_LIMIT 57609146
 
 /* Has the compiler warn where an answer is not looked at; empty where it cannot, or where it was defined so before. */
 #ifndef JECZMILOT_LOOK_AT_THE_ANSWER
@@ -200,6 +230,29 @@ uint32_t norx_segment_open(uint32_t width, uint32_t rounds,
                            uint64_t index, uint32_t complete, uint32_t last,
                            const uint8_t *sealed, size_t sealed_len,
                            uint8_t *out, size_t out_len);
+
+/* The exact length of the list of a job whose body has length bytes; 0 where that is over its limit, for then it has no
+ * list. */
+size_t norx_list_length(uint64_t job, uint64_t revision, uint64_t length);
+
+/* Writes the list of a job whose body has length bytes.
+ * On 0 out holds the list; on any other answer it is unchanged. Answers 0, 4 or 5. */
+JECZMILOT_LOOK_AT_THE_ANSWER
+uint32_t norx_list_write(uint64_t job, uint64_t revision, uint64_t length, uint8_t *out, size_t out_len);
+
+/* What a list says. Look at bad first: where it is not 0 the text is no list, and the other four are 0. */
+struct norx_list {
+    uint64_t bad;      /* the number, from 1, of the first bad line; 0 where there is none */
+    uint64_t job;      /* the one that every line has */
+    uint64_t revision; /* the one that every line has */
+    uint64_t segments; /* how many lines there are */
+    uint64_t length;   /* the bytes of the whole body */
+};
+
+/* Reads a list. Where bad is 0, norx_list_write writes this text for the job, revision and length that are given back;
+ * where it is not, there are none for which it would. */
+JECZMILOT_LOOK_AT_THE_ANSWER
+struct norx_list norx_list_read(const uint8_t *text, size_t text_len);
 
 #ifdef __cplusplus
 }

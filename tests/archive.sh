@@ -1,5 +1,5 @@
 #!/bin/sh
-# Checks that the archive exports the four calls of the header and needs memcpy and memset, and nothing else either way:
+# Checks that the archive exports the seven calls of the header and needs memcpy and memset, and nothing else either way:
 #   tests/archive.sh [ARCHIVE]
 
 set -eu
@@ -11,7 +11,7 @@ listing=$($NM --extern-only --defined-only --format=posix "$archive")
 # A symbol's line begins with name and type; the line that names a member of the archive ends in a colon.
 symbols=$(echo "$listing" | awk '!/:$/ && NF >= 2 { print $2, $1 }' | sort -u)
 names=$(echo "$symbols" | awk '{ print $2 }' | sort -u)
-calls='norx_open norx_seal norx_segment_open norx_segment_seal'
+calls='norx_list_length norx_list_read norx_list_write norx_open norx_seal norx_segment_open norx_segment_seal'
 expected=$(echo "$calls" | tr ' ' '\n')
 
 echo "global symbols defined in $archive:"

@@ -1,5 +1,5 @@
 #!/bin/sh
-# Builds both benchmarks with the archive and runs them: the library beside the reference, and segments beside one call:
+# Builds the benchmarks with the archive and runs them: the library beside the reference, lists too, and segments beside one call:
 #   tests/bench.sh [ARCHIVE]
 
 set -eu
@@ -14,6 +14,10 @@ $CC $CFLAGS -Iinclude -Itests/reference -o "$program" tests/bench.c tests/refere
 # shellcheck disable=SC2086
 $CC $CFLAGS -pthread -Iinclude -Itests/reference -o "${program}_segments" \
     tests/bench_segments.c tests/reference/norx.c tests/reference/segments.c "$archive" $LDFLAGS
+# shellcheck disable=SC2086
+$CC $CFLAGS -Iinclude -Itests/reference -o "${program}_list" tests/bench_list.c tests/reference/lists.c "$archive" $LDFLAGS
 $RUN "$program"
 echo
 $RUN "${program}_segments"
+echo
+$RUN "${program}_list"

@@ -72,6 +72,20 @@ static void segments(struct message *message)
     segmented_jobs(message);
 }
 
+static void lists(void)
+{
+    lists_by_hand();
+    list_lengths();
+    listed_jobs();
+    list_outputs();
+    list_numbers();
+    list_rules();
+    damaged_lists();
+    list_prefixes();
+    list_null_pointers();
+    largest_lists();
+}
+
 int main(int count, char **arguments)
 {
     struct options options = read_options(count, arguments);
@@ -81,6 +95,7 @@ int main(int count, char **arguments)
     message_allocate(&message);
     whole_messages(&message, options.vectors);
     segments(&message);
+    lists();
     message_free(&message);
     return cases_finish();
 }

@@ -11,5 +11,5 @@ mkdir -p target/tests
 # The flags are lists of words.
 # shellcheck disable=SC2086
 $CC $CFLAGS -Iinclude -Itests/reference -o "$program" \
-    tests/differential.c tests/differential/*.c tests/reference/norx.c tests/reference/segments.c "$archive" $LDFLAGS
+    tests/differential.c tests/differential/*.c tests/reference/*.c "$archive" $LDFLAGS
 $RUN "$program" "$root/tests/vectors/norx-3.0.txt" --runner "$RUN" "$@"

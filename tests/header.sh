@@ -15,6 +15,8 @@ void unlooked(uint8_t *out) {
     norx_open(64, 4, out, 0, out, 0, out, 0, out, 0, out, 0, out, 0);
     norx_segment_seal(64, 4, out, 0, out, 0, 7, 12, out, 0, 0, 1, out, 0, out, 0);
     norx_segment_open(64, 4, out, 0, out, 0, 7, 12, out, 0, 0, 0, 1, out, 0, out, 0);
+    norx_list_write(7, 12, 0, out, 0);
+    norx_list_read(out, 0);
 }
 C
 
@@ -28,7 +30,7 @@ if compiles -std=c11 target/tests/unlooked.c; then
     echo "an answer that is not looked at brings no warning"
     exit 1
 fi
-for call in norx_seal norx_open norx_segment_seal norx_segment_open; do
+for call in norx_seal norx_open norx_segment_seal norx_segment_open norx_list_write norx_list_read; do
     grep -q "$call.*unused-result" target/tests/header.out || { echo "no warning of $call"; cat target/tests/header.out; exit 1; }
 done
 

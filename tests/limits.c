@@ -60,6 +60,16 @@ static void segment_rows(uint32_t width)
     segment_row("segment 1048576, last", width, 0, highest + 1, 1, JECZMILOT_SEGMENT_BYTES);
 }
 
+/* Writes the list of a job that is as long as a list can be, and prints the answer. */
+static void list_row(const char *name, uint64_t length)
+{
+    size_t len = norx_list_length(UINT64_MAX, UINT64_MAX, length);
+    uint8_t *out = zeros(len);
+    uint32_t answer = norx_list_write(UINT64_MAX, UINT64_MAX, length, out, len);
+    printf("%s, in %zu bytes: %" PRIu32 "\n", name, len, answer);
+    free(out);
+}
+
 int main(void)
 {
     for (uint32_t width = 32; width <= 64; width += 32) {
@@ -71,5 +81,7 @@ int main(void)
         row("a trailer of 65537", width, 0, 1, JECZMILOT_TRAILER_LIMIT + 1);
         segment_rows(width);
     }
+    list_row("a list of a body of 68719476736", JECZMILOT_LIST_BODY_LIMIT);
+    list_row("a list of a body of 68719476737", JECZMILOT_LIST_BODY_LIMIT + 1);
     return 0;
 }

@@ -1,5 +1,5 @@
 #!/bin/sh
-# Builds the C programs of the README, its first and its third C code, as they stand there, once with the archive and once against what
+# Builds the C programs of the README, its first, its third and its fourth C code, as they stand there, once with the archive and once against what
 # `make install` puts in place, and compares what they write with what the README says; the README's stories with what the program replay must write;
 # and the README's Rattle code with the program example, which the gate proves and runs:
 #   tests/readme.sh [ARCHIVE]
@@ -19,10 +19,11 @@ take() { # NAME CODE TEXT
 
 take readme 1 1
 take readme_segments 3 2
+take readme_lists 4 3
 
-# Builds both with the flags given, runs them and compares.
+# Builds them with the flags given, runs them and compares.
 try() {
-    for name in readme readme_segments; do
+    for name in readme readme_segments readme_lists; do
         # The flags are lists of words.
         # shellcheck disable=SC2086
         $CC $CFLAGS -o "target/tests/$name" "target/tests/$name.c" "$@" $LDFLAGS

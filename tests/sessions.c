@@ -1,4 +1,4 @@
-/* Holds the program vectors to a model of sessions and segments, on scripts made from a seed. */
+/* Holds the program vectors to a model of sessions, segments and lists, on scripts made from a seed. */
 
 #include <inttypes.h>
 #include <stdio.h>
@@ -117,14 +117,14 @@ static bool hold_all(const struct options *options, struct tally *tally)
 /* Prints the closing line, and says whether every answer was given. */
 static bool finish(const struct options *options, const struct tally *tally)
 {
-    bool all_given = true;
+    bool all_given = tally->bad > 0;
 
     printf("seed %" PRIu64 ": %" PRIu64 " calls are as the model says; answers", options->seed, tally->calls);
     for (int i = 0; i < ANSWERS; i++) {
         printf("%s %d: %" PRIu64, i > 0 ? "," : "", i, tally->answers[i]);
         all_given = all_given && tally->answers[i] > 0;
     }
-    printf("\n");
+    printf(", bad: %" PRIu64 "\n", tally->bad);
     return all_given;
 }
 

@@ -1,6 +1,6 @@
 #!/bin/sh
-# Builds the model of sessions and segments and holds to it the committed data of the program vectors, and then the
-# proved program itself, on scripts made from a seed:
+# Builds the model of sessions, segments and lists and holds to it the committed data of the program vectors, and then
+# the proved program itself, on scripts made from a seed:
 #   tests/sessions.sh [--seed NUMBER] [--script NUMBER]
 #   tests/sessions.sh --say     answers the calls of standard input by the model alone
 

@@ -43,4 +43,26 @@ void segment_null_pointers(struct message *message);
 
 void segmented_jobs(struct message *message);
 
+/* Of lists; these have a working space of their own. */
+
+void lists_by_hand(void);
+
+void list_lengths(void);
+
+void listed_jobs(void);
+
+void list_outputs(void);
+
+void list_numbers(void);
+
+void list_rules(void);
+
+void damaged_lists(void);
+
+void list_prefixes(void);
+
+void list_null_pointers(void);
+
+void largest_lists(void);
+
 #endif

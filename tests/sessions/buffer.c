@@ -47,6 +47,17 @@ void buffer_print(struct buffer *buffer, const char *format, ...)
     va_end(arguments);
 }
 
+void buffer_replace(struct buffer *buffer, size_t begin, size_t end, struct bytes by)
+{
+    size_t behind = buffer->length - end;
+
+    make_room(buffer, by.length);
+    memmove(buffer->at + begin + by.length, buffer->at + end, behind);
+    if (by.length > 0)
+        memcpy(buffer->at + begin, by.at, by.length);
+    buffer->length = begin + by.length + behind;
+}
+
 void buffer_hex(struct buffer *buffer, struct bytes bytes)
 {
     if (bytes.length == 0)

@@ -22,6 +22,9 @@ void buffer_fill(struct buffer *buffer, uint8_t byte, size_t times);
 
 void buffer_print(struct buffer *buffer, const char *format, ...) __attribute__((format(printf, 2, 3)));
 
+/* Puts other bytes in place of those from begin to end; they are none of its own. */
+void buffer_replace(struct buffer *buffer, size_t begin, size_t end, struct bytes by);
+
 /* Lowercase hexadecimal digits, and - for no bytes. */
 void buffer_hex(struct buffer *buffer, struct bytes bytes);
 

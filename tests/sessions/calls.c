@@ -135,6 +135,8 @@ static const struct verb verbs[] = {
     {"piece", "uupubn", SEALING, answer_piece},     {"put", "uuuiuus", SEALING, answer_put},
     {"take", "bfbn", CHECKING, answer_take},        {"segment", "iibbuubufbn", SEALING, answer_segment},
     {"await", "ufi", CHECKING, answer_await},       {"receiver", "wibbuu", CHECKING, answer_receiver},
+    {"list", "uuun", SEALING, answer_list},         {"fields", "bn", CHECKING, answer_fields},
+    {"read", "b", CHECKING, answer_read},
 };
 
 const struct verb *find_verb(struct bytes name)

@@ -20,4 +20,9 @@ bool answer_receiver(struct model *model, const struct argument *arguments);
 bool answer_take(struct model *model, const struct argument *arguments);
 bool answer_await(struct model *model, const struct argument *arguments);
 
+/* The calls on lists. */
+bool answer_list(struct model *model, const struct argument *arguments);
+bool answer_read(struct model *model, const struct argument *arguments);
+bool answer_fields(struct model *model, const struct argument *arguments);
+
 #endif

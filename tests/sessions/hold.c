@@ -18,10 +18,13 @@ static void show_line(const char *what, struct bytes line)
 
 static void count(struct tally *tally, struct bytes written)
 {
-    if (written.length == 0 || written.at[0] < '0' || written.at[0] > '9')
-        return;
-    tally->calls++;
-    tally->answers[strtoul((const char *)written.at, NULL, 10)]++;
+    bool is_bad = written.length > 0 && written.at[0] == 'b';
+    bool is_answer = written.length > 0 && written.at[0] >= '0' && written.at[0] <= '9';
+
+    tally->calls += is_bad || is_answer;
+    tally->bad += is_bad;
+    if (is_answer)
+        tally->answers[strtoul((const char *)written.at, NULL, 10)]++;
 }
 
 bool hold_lines(const char *name, struct bytes calls, struct bytes written, struct tally *tally)

@@ -3,9 +3,9 @@
 
 #include "language.h"
 
-/* What was held so far. */
+/* What was held so far; a text that is no list is answered bad, and not by a number. */
 struct tally {
-    uint64_t calls, answers[ANSWERS];
+    uint64_t calls, answers[ANSWERS], bad;
 };
 
 /* Holds every line that is written to the model of its call, and shows the first one that differs. */

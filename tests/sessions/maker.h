@@ -52,6 +52,7 @@ struct maker {
     struct buffer spare, same; /* random bytes, and as many of one value */
     struct job job;
     struct delivery delivery;
+    struct buffer text; /* lists, or nearly */
     size_t lines;
 };
 
@@ -96,5 +97,17 @@ void send_stray(struct maker *maker);
 
 /* Lets the receiver wait for another index or with other rounds, tries that, and most often puts its own back. */
 void send_awaiting(struct maker *maker);
+
+/* Changes the maker's text, which is one list or two, most often by one byte. */
+void change_text(struct maker *maker);
+
+/* Each sends a call on lists; that of a far one has a body around the longest or past it. */
+void send_list(struct maker *maker, bool is_bent);
+void send_far_list(struct maker *maker);
+void send_read(struct maker *maker, bool is_changed);
+void send_fields(struct maker *maker);
+
+/* Has the longest list written that an argument has room for, and read as it is and changed. */
+void send_longest_list(struct maker *maker);
 
 #endif

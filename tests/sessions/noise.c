@@ -1,7 +1,5 @@
 /* Lines that nobody meant: spoiled ones, and those around the longest. */
 
-#include <stdlib.h>
-
 #include "language.h"
 #include "script.h"
 
@@ -18,16 +16,11 @@ enum { ODD_WORDS = sizeof odd_words / sizeof *odd_words };
 /* Puts a text in place of the word that begins here. */
 static void replace_word(struct buffer *line, size_t begin, const char *text)
 {
-    struct buffer right = *line;
     size_t end = begin;
 
-    while (end < right.length && right.at[end] != ' ')
+    while (end < line->length && line->at[end] != ' ')
         end++;
-    *line = (struct buffer){0};
-    buffer_add(line, right.at, begin);
-    buffer_print(line, "%s", text);
-    buffer_add(line, right.at + end, right.length - end);
-    free(right.at);
+    buffer_replace(line, begin, end, (struct bytes){(const uint8_t *)text, strlen(text)});
 }
 
 /* Where one of the line's words begins. */

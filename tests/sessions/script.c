@@ -1,10 +1,10 @@
-/* Scripts: sessions from start to close and jobs in segments, with all that can go wrong on the way. */
+/* Scripts: sessions from start to close, jobs in segments and lists, with all that can go wrong on the way. */
 
 #include "script.h"
 
 #include "maker.h"
 
-enum { LINES = 2500, SEGMENT_LINES = 500 };
+enum { LINES = 2500, SEGMENT_LINES = 500, LIST_LINES = 1500 };
 
 static bool all_is_taken(struct maker *m)
 {
@@ -126,11 +126,44 @@ static void segments(struct buffer *script, struct prng prng, size_t turn)
     script->length--;
 }
 
+/* One call on lists, or one on the session held, which the others leave as it is. */
+static void list_step(struct maker *m)
+{
+    size_t die = prng_below(&m->prng, 100);
+
+    if (die < 56)
+        send_read(m, true);
+    else if (die < 64)
+        send_read(m, false);
+    else if (die < 76)
+        send_fields(m);
+    else if (die < 92)
+        send_list(m, chance(m, 2));
+    else if (die < 95)
+        send_far_list(m);
+    else
+        step(m);
+}
+
+static void lists(struct buffer *script, struct prng prng)
+{
+    static struct maker maker;
+
+    maker_start(&maker, script, prng);
+    send_start(&maker, SEALING, false);
+    send_longest_list(&maker);
+    while (maker.lines < LIST_LINES)
+        list_step(&maker);
+    script->length--;
+}
+
 void make_script(struct buffer *script, uint64_t seed, uint64_t number)
 {
     script->length = 0;
     if (number == LONG_LINES)
         long_lines(script);
+    else if (number > LAST_OF_SEGMENTS)
+        lists(script, prng_start(seed, number));
     else if (number > LONG_LINES)
         segments(script, prng_start(seed, number), number);
     else

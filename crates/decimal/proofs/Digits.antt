@@ -3,14 +3,16 @@
 use mathlib.Core.Path.{_≡_, refl, sym, ap, _∙_}
 use mathlib.Core.Logic.{_⊎_, inl, inr, ⊎-elim}
 use mathlib.Core.List.{List, [], _∷_, _++_, head-eq-of-cons-eq, tail-eq-of-cons-eq}
-use Prim.Native.Nat.{ℕ, zero, suc, _+_, _-_, _*_, _/_, _%_, _<_, _≤_}
+use Prim.Native.Nat.{ℕ, zero, suc, _+_, _-_, _*_, _/_, _%_, _<_, _≤_, _^_}
 use native.Mathlib.Omega.{arith}
 use native.Mathlib.Decide.{decLt}
-use native.Mathlib.Nat.{not-suc-le-zero, le-refl}
+use native.Mathlib.Nat.{not-suc-le-zero, le-refl, pow-suc, div-lt-iff-lt-mul}
+use lib.Dec.{lit<}
 use lib.ListN.{length, take, length-append}
 use lib.Seq.{take-append-le, take-all}
 use borrow.Author.Tests.{lt-ltb, le-ltb}
 use Rattle.decimal.specs.Decimal.{digit, digits, numText}
+use Rattle.decimal.proofs.Every.{All, all-append}
 
 pub lt-or-ge : (m n : ℕ) → (m < n) ⊎ (n ≤ m)
 lt-or-ge m n = of (decLt m n)
@@ -52,7 +54,7 @@ num-more (suc k) h =
     ∙ ap (λ (l : List ℕ). l ++ (digit (suc k % 10) ∷ [])) (digits-same k (suc k / 10) (suc k / 10) (omega arith) (le-refl (suc k / 10)))
 
 -- what holds of one digit, and of n where it holds of n / 10, holds of every number
-num-ind : (P : ℕ → Type 0) → ((n : ℕ) → n < 10 → P n) → ((n : ℕ) → 10 ≤ n → P (n / 10) → P n) → (n : ℕ) → P n
+pub num-ind : (P : ℕ → Type 0) → ((n : ℕ) → n < 10 → P n) → ((n : ℕ) → 10 ≤ n → P (n / 10) → P n) → (n : ℕ) → P n
 num-ind P one more n = go n n (le-refl n)
   where
     go : (k n : ℕ) → n ≤ k → P n
@@ -61,7 +63,7 @@ num-ind P one more n = go n n (le-refl n)
 
 -- ---- How many digits
 
-length-small : (n : ℕ) → n < 10 → length (numText n) ≡ 1
+pub length-small : (n : ℕ) → n < 10 → length (numText n) ≡ 1
 length-small n h = ap length (num-small n h)
 
 pub length-more : (n : ℕ) → 10 ≤ n → length (numText n) ≡ length (numText (n / 10)) + 1
@@ -69,6 +71,24 @@ length-more n h = ap length (num-more n h) ∙ length-append (numText (n / 10)) 
 
 pub length-pos : (n : ℕ) → 1 ≤ length (numText n)
 length-pos = num-ind (λ n. 1 ≤ length (numText n)) (λ n h. omega (arith, length-small n h)) (λ n h ih. omega (arith, length-more n h))
+
+-- a number below 10 to the k has at most k digits
+pub length-below : (k n : ℕ) → n < 10 ^ suc k → length (numText n) ≤ suc k
+length-below zero n h = omega (arith, length-small n h)
+length-below (suc k) n h =
+    ⊎-elim (λ s. omega (arith, length-small n s))
+    (λ g.
+    let q : n / 10 < 10 ^ suc k = div-lt-iff-lt-mul (lit< tt) .1 (rw (pow-suc 10 (suc k)) at h) in
+    omega (arith, length-more n g, length-below k (n / 10) q)) (lt-or-ge n 10)
+
+-- every byte is a digit's
+abbrev pub Digit : ℕ → Type 0
+Digit b = (48 ≤ b) × (b ≤ 57)
+
+pub num-digits : (n : ℕ) → All Digit (numText n)
+num-digits =
+    num-ind (λ n. All Digit (numText n)) (λ n h. rw (num-small n h) ((omega arith, omega arith), tt))
+    (λ n h ih. rw (num-more n h) (all-append Digit (numText (n / 10)) (digit (n % 10) ∷ []) ih ((omega arith, omega arith), tt)))
 
 -- ---- Two numbers have two texts
 

@@ -1,17 +1,15 @@
--- A text read byte by byte: what its first byte, and one byte more, make of the number so far.
+-- What one byte, and one byte behind a number, are read as; and that a text is one number or none.
 -- Assumes nothing.
-use mathlib.Core.Path.{_≡_, refl, sym, ap, ap₂, subst, _∙_}
+use mathlib.Core.Path.{_≡_, refl, sym, ap, ap₂, _∙_}
 use mathlib.Core.Logic.{⊎-elim}
 use mathlib.Core.List.{List, [], _∷_, _++_, head-eq-of-cons-eq}
 use Prim.Native.Nat.{ℕ, _+_, _-_, _*_, _/_, _%_, _<_, _≤_}
 use native.Mathlib.Omega.{arith}
-use native.Mathlib.Numerals.{add-one}
-use lib.ListN.{length, take, getD}
-use lib.Seq.{take-suc}
+use lib.ListN.{length}
 use Rattle.decimal.specs.Decimal.{digit, numText, NumberIs}
 use Rattle.decimal.specs.declared.Number.{Number}
 use Rattle.decimal.specs.declared.Number.the-variants.{Value, Nothing}
-use Rattle.decimal.proofs.Digits.{lt-or-ge, num-small, num-more, length-more, length-pos, num-inj, num-snoc, num-take}
+use Rattle.decimal.proofs.Digits.{lt-or-ge, num-small, num-more, length-more, length-pos, num-inj, num-snoc}
 
 -- a number's text of one byte
 pub one-inv : (b n : ℕ) → b ∷ [] ≡ numText n → (b ≡ digit n) × (n < 10)
@@ -39,24 +37,6 @@ pub no-more : (v b : ℕ) → NumberIs (b ∷ []) Nothing → NumberIs (numText 
 no-more v b none m lt e =
     let r = num-snoc v b m e in
     none (m % 10) (omega arith) (ap (λ (k : ℕ). k ∷ []) (r .1) ∙ sym (num-small (m % 10) (omega arith)))
-
--- what the first byte is read as, the first part of a text is; and a byte more, where the first i bytes are v's text
-pub first-byte : (d : List ℕ) (r : Number) → 0 < length d → NumberIs (getD d 0 0 ∷ []) r → NumberIs (take 1 d) r
-first-byte d r h p = subst (λ (x : List ℕ). NumberIs x r) (sym (take-suc d 0 0 h)) p
-
-pub byte-more : (d : List ℕ) (i v : ℕ) (r : Number) → i < length d → take i d ≡ numText v → NumberIs (numText v ++ (getD d i 0 ∷ [])) r → NumberIs (take (i + 1) d) r
-byte-more d i v r h e p =
-    let f : take (i + 1) d ≡ numText v ++ (getD d i 0 ∷ []) = rw add-one (take-suc d i 0 h ∙ ap (λ (x : List ℕ). x ++ (getD d i 0 ∷ [])) e) in
-    subst (λ (x : List ℕ). NumberIs x r) (sym f) p
-
--- a text that begins with no number's text is none
-pub begins-none : (d : List ℕ) (i : ℕ) → i < length d → NumberIs (take (i + 1) d) Nothing → NumberIs d Nothing
-begins-none d i h none n lt e =
-    let r = num-take n (i + 1) (omega arith) (omega (arith, ap length e)) in
-    none (r .0) (omega (arith, r .1)) (ap (take (i + 1)) e ∙ r .2)
-
-pub empty-none : (d : List ℕ) → length d ≡ 0 → NumberIs d Nothing
-empty-none d h n lt e = omega (arith, ap length e, length-pos n)
 
 -- a text is one number, or none
 pub number-unique : (d : List ℕ) (a b : Number) → NumberIs d a → NumberIs d b → a ≡ b

@@ -1,12 +1,15 @@
 -- The text of a number: its decimal digits as bytes, without leading zeros; and what a text is read as.
 -- Assumes nothing.
 use mathlib.Core.Path.{_≡_}
-use mathlib.Core.Bool.{cond}
+use mathlib.Core.Bool.{Bool, _&&_, cond}
 use mathlib.Core.List.{List, [], _∷_, _++_}
 use Prim.Native.Nat.{ℕ, zero, suc, _+_, _/_, _%_, _<_, _^_}
-use lib.Dec.{ltb}
+use lib.Dec.{ltb, leb}
+use lib.ListN.{length, drop}
 use Rattle.decimal.specs.declared.Number.{Number}
 use Rattle.decimal.specs.declared.Number.the-variants.{Value, Nothing}
+use Rattle.decimal.specs.declared.Found.{Found}
+use Rattle.decimal.specs.declared.Found.the-variants.{Here, NoNumber}
 
 -- the byte of a digit: 0 is 48, and 9 is 57
 abbrev pub digit : ℕ → ℕ
@@ -25,3 +28,18 @@ numText n = digits n n
 abbrev pub NumberIs : List ℕ → Number → Type 0
 NumberIs d (Value n) = (n < 2 ^ 64) × (d ≡ numText n)
 NumberIs d Nothing = (n : ℕ) → n < 2 ^ 64 → d ≡ numText n → ⊥
+
+-- ---- At a place of a text
+
+unfoldable pub isDigit : ℕ → Bool
+isDigit b = leb (digit 0) b && leb b (digit 9)
+
+-- the digits that a text begins with, up to the first byte that is none
+unfoldable pub digitsOf : List ℕ → List ℕ
+digitsOf [] = []
+digitsOf (b ∷ t) = cond (isDigit b) (b ∷ digitsOf t) []
+
+-- what the digits at a place are read as, and the place behind them
+abbrev pub FoundIs : List ℕ → ℕ → Found → Type 0
+FoundIs t at (Here n end) = NumberIs (digitsOf (drop at t)) (Value n) × (end ≡ at + length (digitsOf (drop at t)))
+FoundIs t at NoNumber = NumberIs (digitsOf (drop at t)) Nothing

@@ -32,19 +32,23 @@ module _ {A : Type 0} (k : ℕ) (a b c d e f : A) where
   unfolding byNumber
   at-closes n1 n2 n3 n4 n5 = cond-false _ _ _ (ne-eqb k 1 n1) ∙ cond-false _ _ _ (ne-eqb k 2 n2) ∙ cond-false _ _ _ (ne-eqb k 3 n3) ∙ cond-false _ _ _ (ne-eqb k 4 n4) ∙ cond-false _ _ _ (ne-eqb k 5 n5)
 
-module _ {A : Type 0} (k : ℕ) (a b c d : A) where
-  pub at-segment : k ≡ 10 → byJob k a b c d ≡ a
+module _ {A : Type 0} (k : ℕ) (a b c d e : A) where
+  pub at-segment : k ≡ 10 → byJob k a b c d e ≡ a
   unfolding byJob
   at-segment h = cond-true _ _ _ (eq-eqb k 10 h)
 
-  pub at-receiver : (k ≡ 10 → ⊥) → k ≡ 11 → byJob k a b c d ≡ b
+  pub at-receiver : (k ≡ 10 → ⊥) → k ≡ 11 → byJob k a b c d e ≡ b
   unfolding byJob
   at-receiver n10 h = cond-false _ _ _ (ne-eqb k 10 n10) ∙ cond-true _ _ _ (eq-eqb k 11 h)
 
-  pub at-take : (k ≡ 10 → ⊥) → (k ≡ 11 → ⊥) → k ≡ 12 → byJob k a b c d ≡ c
+  pub at-take : (k ≡ 10 → ⊥) → (k ≡ 11 → ⊥) → k ≡ 12 → byJob k a b c d e ≡ c
   unfolding byJob
   at-take n10 n11 h = cond-false _ _ _ (ne-eqb k 10 n10) ∙ cond-false _ _ _ (ne-eqb k 11 n11) ∙ cond-true _ _ _ (eq-eqb k 12 h)
 
-  pub at-session : (k ≡ 10 → ⊥) → (k ≡ 11 → ⊥) → (k ≡ 12 → ⊥) → byJob k a b c d ≡ d
+  pub at-list : (k ≡ 10 → ⊥) → (k ≡ 11 → ⊥) → (k ≡ 12 → ⊥) → k ≡ 14 → byJob k a b c d e ≡ d
   unfolding byJob
-  at-session n10 n11 n12 = cond-false _ _ _ (ne-eqb k 10 n10) ∙ cond-false _ _ _ (ne-eqb k 11 n11) ∙ cond-false _ _ _ (ne-eqb k 12 n12)
+  at-list n10 n11 n12 h = cond-false _ _ _ (ne-eqb k 10 n10) ∙ cond-false _ _ _ (ne-eqb k 11 n11) ∙ cond-false _ _ _ (ne-eqb k 12 n12) ∙ cond-true _ _ _ (eq-eqb k 14 h)
+
+  pub at-session : (k ≡ 10 → ⊥) → (k ≡ 11 → ⊥) → (k ≡ 12 → ⊥) → (k ≡ 14 → ⊥) → byJob k a b c d e ≡ e
+  unfolding byJob
+  at-session n10 n11 n12 n14 = cond-false _ _ _ (ne-eqb k 10 n10) ∙ cond-false _ _ _ (ne-eqb k 11 n11) ∙ cond-false _ _ _ (ne-eqb k 12 n12) ∙ cond-false _ _ _ (ne-eqb k 14 n14)

@@ -30,6 +30,9 @@ use Rattle.dispatch.proofs.jobs.take.Reads.{Post as Post-take}
 use Rattle.dispatch.proofs.jobs.put.{signature as signature-put-receiver}
 use Rattle.dispatch.proofs.jobs.put.Kinds as kinds-put-receiver
 use Rattle.dispatch.proofs.jobs.put.Reads.{Post as Post-put-receiver}
+use Rattle.dispatch.proofs.jobs.list.{signature as signature-list}
+use Rattle.dispatch.proofs.jobs.list.Kinds as kinds-list
+use Rattle.dispatch.proofs.jobs.list.Reads.{Post as Post-list}
 use Rattle.dispatch.proofs.kept.call.{signature as signature-call}
 use Rattle.dispatch.proofs.kept.call.Kinds as kinds-call
 use Rattle.dispatch.proofs.kept.call.Reads.{Post as Post-call}
@@ -65,6 +68,10 @@ one-take κs a r r′ s s′ p q = (p .0 ∙ sym (q .0), p .1 ∙ sym (q .1))
 pub one-put-receiver : (κs : Lfts 0) (a : ArgsD signature-put-receiver κs) (r r′ : ResD signature-put-receiver κs) (s s′ : AtExit (endedOf 0 kinds-put-receiver.ps kinds-put-receiver.r) κs)
     → Post-put-receiver κs a r s → Post-put-receiver κs a r′ s′ → r ≡ r′
 one-put-receiver κs a r r′ s s′ p q = p ∙ sym q
+
+pub one-list : (κs : Lfts 1) (a : ArgsD signature-list κs) (r r′ : ResD signature-list κs) (s s′ : AtExit (endedOf 1 kinds-list.ps kinds-list.r) κs)
+    → Post-list κs a r s → Post-list κs a r′ s′ → (r ≡ r′) × (now (s .1 .0) ≡ now (s′ .1 .0))
+one-list κs a r r′ s s′ p q = (p .0 ∙ sym (q .0), p .1 ∙ sym (q .1))
 
 pub one-call : (κs : Lfts 2) (a : ArgsD signature-call κs) (r r′ : ResD signature-call κs) (s s′ : AtExit (endedOf 2 kinds-call.ps kinds-call.r) κs)
     → Post-call κs a r s → Post-call κs a r′ s′ → (r ≡ r′) × (now (s .1 .1 .1 .1 .0) ≡ now (s′ .1 .1 .1 .1 .0))

@@ -124,7 +124,7 @@ madeOut k a m h out = byNumber k (oneCallOut a m false out) (oneCallOut a m true
 -- and each kind is closed by a number of its own, 6 a sealing and 7 a checking session
 unfoldable pub isCall : ℕ → Words → Held → Bool
 isCall k a h =
-    (eqb k 1 || eqb k 2 || eqb k 10 || eqb k 12)
+    (eqb k 1 || eqb k 2 || eqb k 10 || eqb k 12 || eqb k 14)
     || ((eqb k 3 || eqb k 4 || eqb k 11) && (eqb (a .first) 32 || eqb (a .first) 64))
     || (eqb k 5 && (not (h .check) || eqb (a .sixth) 0))
     || (eqb k 6 && not (h .check))

@@ -11,7 +11,7 @@ use Rattle.dispatch.specs.declared.Words.{Words}
 use Rattle.dispatch.specs.declared.kept.Kept.{Kept}
 use Rattle.dispatch.specs.declared.kept.KeptStep.{KeptStep}
 use Rattle.dispatch.specs.Calls.{madeCall, madeOut}
-use Rattle.dispatch.specs.Segments.{segmentCall, segmentCallOut, receiverCall, takeCall, takeCallOut}
+use Rattle.dispatch.specs.Segments.{segmentCall, segmentCallOut, receiverCall, takeCall, takeCallOut, listCall, listCallOut}
 
 -- an answer that leaves all as it was; the step of a receiver, and that of a session
 abbrev pub keptAll : Kept → Answer → KeptStep
@@ -23,9 +23,9 @@ keptReceiver h t = record { answer = t .answer; kept = record { session = h .ses
 abbrev pub keptSession : Kept → HeldStep → KeptStep
 keptSession h t = record { answer = t .answer; kept = record { session = t .session; receiver = h .receiver } }
 
--- by the number of a call: 10 seals a segment, 11 starts a receiver, 12 takes a segment, and any other is one on the session
-unfoldable pub byJob : {A : Type 0} → ℕ → A → A → A → A → A
-byJob k seals starts takes other = cond (eqb k 10) seals (cond (eqb k 11) starts (cond (eqb k 12) takes other))
+-- by the number of a call: 10 seals a segment, 11 starts a receiver, 12 takes a segment, 14 writes a list, and any other is one on the session
+unfoldable pub byJob : {A : Type 0} → ℕ → A → A → A → A → A → A
+byJob k seals starts takes lists other = cond (eqb k 10) seals (cond (eqb k 11) starts (cond (eqb k 12) takes (cond (eqb k 14) lists other)))
 
 unfoldable pub keptCall : ℕ → Words → List ℕ → Kept → List ℕ → KeptStep
 keptCall k a m h out =
@@ -34,8 +34,9 @@ keptCall k a m h out =
     (keptAll h (segmentCall a m out))
     (keptReceiver h (receiverCall a m))
     (keptReceiver h (takeCall a m (h .receiver) out))
+    (keptAll h (listCall a out))
     (keptSession h (madeCall k a m (h .session) out))
 
 -- a start has no output
 unfoldable pub keptOut : ℕ → Words → List ℕ → Kept → List ℕ → List ℕ
-keptOut k a m h out = byJob k (segmentCallOut a m out) out (takeCallOut a m (h .receiver) out) (madeOut k a m (h .session) out)
+keptOut k a m h out = byJob k (segmentCallOut a m out) out (takeCallOut a m (h .receiver) out) (listCallOut a out) (madeOut k a m (h .session) out)

@@ -1,4 +1,4 @@
--- What each call on segments and receivers gives whose arguments are plain numbers and stretches of one memory, on all inputs: what the library's own call gives.
+-- What each call on segments, receivers and lists gives whose arguments are plain numbers and stretches of one memory, on all inputs: what the library's own call gives.
 -- Assumes nothing.
 use Prim.Native.Nat.{ℕ}
 use mathlib.Core.Bool.{Bool}
@@ -8,6 +8,7 @@ use Rattle.answers.specs.declared.Answer.{Answer}
 use Rattle.places.specs.declared.terms.Terms.{Terms}
 use Rattle.cutting.specs.declared.Waiting.{Waiting}
 use Rattle.segments.specs.Segments.{segmentAnswerAt, segmentOutAt}
+use Rattle.lists.specs.Written.{writeAnswer, writeOut}
 use Rattle.held.specs.declared.receiver.HeldReceiver.{HeldReceiver}
 use Rattle.held.specs.declared.receiver.HeldReceiverStep.{HeldReceiverStep}
 use Rattle.held.specs.Receivers.{heldStarted, heldTaken, heldTakenOut, heldPut}
@@ -48,3 +49,10 @@ waitingOf a = record { index = a .first; complete = flagOf (a .second) }
 
 unfoldable pub putReceiverCall : Words → HeldReceiver → HeldReceiver
 putReceiverCall a h = heldPut h (waitingOf a) (low (a .third))
+
+-- job, revision, bytes of the body
+unfoldable pub listCall : Words → List ℕ → Answer
+listCall a out = writeAnswer (a .first) (a .second) (a .third) out
+
+unfoldable pub listCallOut : Words → List ℕ → List ℕ
+listCallOut a out = writeOut (a .first) (a .second) (a .third) out

@@ -1,7 +1,7 @@
-// The library's calls on segments and receivers, their arguments in plain numbers and stretches of one memory. A flag is a number: 1 says yes, and any other no.
+// The library's calls on segments, receivers and lists, their arguments in plain numbers and stretches of one memory. A flag is a number: 1 says yes, and any other no.
 ghost use mathlib.Core.Path.{_≡_};
 ghost use Rattle.norx.specs.Lent.{was};
-ghost use Rattle.dispatch.specs.Segments.{segmentCall, segmentCallOut, receiverCall, takeCall, takeCallOut, putReceiverCall};
+ghost use Rattle.dispatch.specs.Segments.{segmentCall, segmentCallOut, receiverCall, takeCall, takeCallOut, putReceiverCall, listCall, listCallOut};
 use crate::Words;
 use crate::low;
 use crate::stretch;
@@ -63,4 +63,12 @@ pub fn put(a: Words, held: HeldReceiver) -> HeldReceiver
         complete: a.second == 1,
     };
     held.put(waiting, low(a.third))
+}
+
+// Writes a list: job, revision, bytes of the body.
+pub fn list(a: Words, out: &mut [u8]) -> Answer
+    ensures answer { λ r. ⌜ r ≡ listCall a (was out) ⌝ }
+    ensures output { λ _. ⌜ now (out .exit) ≡ listCallOut a (was out) ⌝ }
+{
+    lists::write_list(a.first as u64, a.second as u64, a.third as u64, out)
 }

@@ -3,6 +3,7 @@ ghost use mathlib.Core.Path.{_≡_};
 ghost use Rattle.norx.specs.Lent.{was};
 ghost use Rattle.dispatch.specs.Kept.{keptReceiver, keptSession, keptCall, keptOut};
 use crate::Words;
+use crate::jobs::list;
 use crate::jobs::receiver;
 use crate::jobs::segment;
 use crate::jobs::take;
@@ -24,7 +25,7 @@ pub struct KeptStep {
     pub kept: Kept,
 }
 
-// Makes the call of a number: 10 seals a segment, 11 starts a receiver, 12 takes a segment, and any other is one on the session.
+// Makes the call of a number: 10 seals a segment, 11 starts a receiver, 12 takes a segment, 14 writes a list, and any other is one on the session.
 pub fn call(k: usize, a: Words, memory: &[u8], kept: Kept, out: &mut [u8]) -> KeptStep
     ensures step { λ r. ⌜ r ≡ keptCall k a (was memory) kept (was out) ⌝ }
     ensures output { λ _. ⌜ now (out .exit) ≡ keptOut k a (was memory) kept (was out) ⌝ }
@@ -39,6 +40,10 @@ pub fn call(k: usize, a: Words, memory: &[u8], kept: Kept, out: &mut [u8]) -> Ke
     if k == 12 {
         let held = kept.receiver;
         return with_receiver(kept, take(a, memory, held, out));
+    }
+    if k == 14 {
+        let answer = list(a, out);
+        return KeptStep { answer, kept };
     }
     let held = kept.session;
     with_session(kept, make(k, a, memory, held, out))

@@ -66,7 +66,7 @@ pub fn make(k: usize, a: Words, memory: &[u8], held: Held, out: &mut [u8]) -> He
 pub fn is_call(k: usize, a: Words, held: Held) -> bool
     ensures { λ r. ⌜ r ≡ isCall k a held ⌝ }
 {
-    let asks_nothing = (k == 1) | (k == 2) | (k == 10) | (k == 12);
+    let asks_nothing = (k == 1) | (k == 2) | (k == 10) | (k == 12) | (k == 14);
     let starts = ((k == 3) | (k == 4) | (k == 11)) & ((a.first == 32) | (a.first == 64));
     let offers = (k == 5) & (!held.check | (a.sixth == 0));
     let closes = (k == 6) & !held.check;

@@ -1,13 +1,16 @@
-// The C host's library: sealing and opening in one call, and segment by segment, on numbers and byte slices.
+// The C host's library: sealing and opening in one call, and segment by segment, and lists of segments as text, on numbers and byte slices.
 ghost use mathlib.Core.Path.{_≡_};
 ghost use Rattle.norx.specs.Lent.{was};
 ghost use Rattle.answers.specs.Answers.{numberOf};
 ghost use Rattle.sealing.specs.Widths.{sealAnswerAt, sealOutAt, openAnswerAt, openOutAt};
 ghost use Rattle.sealing.specs.Promises.{SealsAt, OpensAt};
 ghost use Rattle.segments.specs.Segments.{segmentAnswerAt, segmentOutAt, takeAnswerAt, takeOutAt};
+ghost use Rattle.lists.specs.Written.{listLength, writeAnswer, writeOut};
 ghost use Rattle.jeczmilot.specs.Numbers.{yes, termsOf, waitingOf};
+ghost use Rattle.jeczmilot.specs.Readings.{ReadAsNumbers};
 use answers::number;
 use cutting::Waiting;
+use lists::Reading;
 use places::terms::Edition;
 use places::terms::Terms;
 
@@ -121,4 +124,59 @@ pub extern "C" fn norx_segment_open(
         sealed,
         out,
     ))
+}
+
+// What a text is read as: the number of its first bad line and four zeros; or 0 and the job, the revision, the segments and the body length of the list that it is.
+#[repr(C)]
+pub struct ListNumbers {
+    pub bad: u64,
+    pub job: u64,
+    pub revision: u64,
+    pub segments: u64,
+    pub length: u64,
+}
+
+// How long the list of a body of so many bytes is; 0 where it has none.
+#[no_mangle]
+pub extern "C" fn norx_list_length(job: u64, revision: u64, body: u64) -> usize
+    ensures { λ r. ⌜ r ≡ listLength job revision body ⌝ }
+{
+    lists::list_length(job, revision, body)
+}
+
+// Writes the list of a body of so many bytes; the answer is its number.
+#[no_mangle]
+pub extern "C" fn norx_list_write(job: u64, revision: u64, body: u64, out: &mut [u8]) -> u32
+    ensures answer { λ r. ⌜ r ≡ numberOf (writeAnswer job revision body (was out)) ⌝ }
+    ensures output { λ _. ⌜ now (out .exit) ≡ writeOut job revision body (was out) ⌝ }
+{
+    number(lists::write_list(job, revision, body, out))
+}
+
+// Reads a text as a list.
+#[no_mangle]
+pub extern "C" fn norx_list_read(text: &[u8]) -> ListNumbers
+    ensures { λ r. ⌜ ReadAsNumbers (was text) r ⌝ }
+{
+    match lists::read_list(text) {
+        Reading::Taken {
+            job,
+            revision,
+            segments,
+            body,
+        } => ListNumbers {
+            bad: 0,
+            job,
+            revision,
+            segments,
+            length: body,
+        },
+        Reading::Refused(line) => ListNumbers {
+            bad: line,
+            job: 0,
+            revision: 0,
+            segments: 0,
+            length: 0,
+        },
+    }
 }

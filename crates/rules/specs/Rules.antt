@@ -27,6 +27,10 @@ segmentBytes = 65536
 abbrev pub mostSegments : ℕ
 mostSegments = 1048576
 
+-- so a job in segments has at most 68,719,476,736 bytes
+abbrev pub longestJob : ℕ
+longestJob = 68719476736
+
 abbrev pub within : ℕ → ℕ → ℕ → Bool
 within header body trailer = leb header longestHeader && leb body longestBody && leb trailer longestTrailer
 

@@ -24,6 +24,9 @@ pub const SEGMENT: usize = 65536;
 
 pub const MOST_SEGMENTS: u64 = 1048576;
 
+// The longest job in segments, 68719476736 bytes: as many as the most segments have.
+pub const LONGEST_JOB: u64 = MOST_SEGMENTS * SEGMENT as u64;
+
 // The bytes of the number in a segment's nonce, which stands behind the nonce of its job.
 pub const SEGMENT_NUMBER: usize = 8;
 

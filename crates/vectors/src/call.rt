@@ -6,6 +6,7 @@ use crate::names::STANDINGS;
 use crate::names::find;
 use crate::names::row;
 use crate::parts::part;
+use crate::reading;
 use crate::room;
 use crate::run::Run;
 use crate::show;
@@ -33,16 +34,19 @@ fn asked(line: &[u8], run: Run) -> Run {
 
 // A line that is no call changes nothing.
 pub(crate) fn no_call(run: Run) -> Run {
-    run.told(tell::byte(b'?') & tell::byte(b'\n'))
+    run.told(tell::no_call())
 }
 
-// Answers the call of a row of the names.
+// Answers the call of a row of the names. One that changes nothing gives whether its line was written.
 fn answered(k: usize, a: Arguments, memory: &[u8], run: Run) -> Run {
-    match k {
-        0 => show::constants(a, run),
+    let written = match k {
+        0 => show::constants(a, run.is_quiet),
         8 => show::session(run),
-        9 => show::put(a, run),
-        13 => show::put_receiver(a, run),
-        _ => made::answered(k, a, memory, run),
-    }
+        9 => return show::put(a, run),
+        13 => return show::put_receiver(a, run),
+        15 => reading::list(a, memory, run.is_quiet),
+        16 => reading::fields(a, memory, run.is_quiet),
+        _ => return made::answered(k, a, memory, run),
+    };
+    run.told(written)
 }

@@ -11,27 +11,19 @@ use answers::number;
 
 // A call that lends no output is told by its answer alone.
 pub(crate) fn answered(k: usize, a: Arguments, memory: &[u8], mut run: Run) -> Run {
-    let kept = run.kept;
-    let words = a.words;
-    if !dispatch::is_call(k, words, kept.session) {
+    if !dispatch::is_call(k, a.words, run.kept.session) {
         return no_call(run);
     }
     let mut out = room::out();
-    let step = dispatch::kept::call(k, words, memory, kept, first(&mut out, a.lent));
+    let step = dispatch::kept::call(k, a.words, memory, run.kept, first(&mut out, a.lent));
     let answer = step.answer;
     let next = step.kept;
     run.kept = next;
-    if k == TAKEN {
-        return run.told(tell::taken(
-            number(answer),
-            part(&out, 0, a.lent),
-            next.receiver.waiting(),
-            run.is_quiet,
-        ));
-    }
     run.told(tell::output(
         number(answer),
         part(&out, 0, a.lent),
         run.is_quiet | !a.lends,
+        k == TAKEN,
+        next.receiver.waiting(),
     ))
 }

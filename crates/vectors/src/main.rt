@@ -7,6 +7,7 @@ mod lines;
 mod made;
 mod names;
 mod parts;
+mod reading;
 mod room;
 mod run;
 mod show;

@@ -5,7 +5,7 @@ use places::Standing;
 use places::rank;
 use texts::same;
 
-// A row is a name and, of a call, the kinds of its words: W a number of 32 bits, R one of 64 bits, B bytes, P a part, S a standing, F a flag (0 or 1), N the length of an output.
+// A row is a name and, of a call, the kinds of its words: W a number of 32 bits, R one of 64 bits, B bytes, P a part, S a standing, F a flag (0 or 1), N the length of an output or how many fields.
 pub(crate) type Row = [u8; 21];
 
 const CONSTANTS: Row = *b"constants W          ";
@@ -36,6 +36,12 @@ const TAKE: Row = *b"take      BFBN       ";
 
 const AWAIT: Row = *b"await     RFW        ";
 
+const LIST: Row = *b"list      RRRN       ";
+
+const READ: Row = *b"read      B          ";
+
+const FIELDS: Row = *b"fields    BN         ";
+
 const CLOSED: Row = *b"closed               ";
 
 const NOTE: Row = *b"note                 ";
@@ -53,11 +59,11 @@ pub(crate) const WORDS: usize = 10;
 pub(crate) const TAKEN: usize = 12;
 
 // Where the standings and the parts begin among the rows, and where they end; the calls come first.
-pub(crate) const STANDINGS: usize = 14;
+pub(crate) const STANDINGS: usize = 17;
 
-pub(crate) const PARTS: usize = 15;
+pub(crate) const PARTS: usize = 18;
 
-pub(crate) const END: usize = 18;
+pub(crate) const END: usize = 21;
 
 pub(crate) fn row(k: usize) -> Row {
     match k {
@@ -75,10 +81,13 @@ pub(crate) fn row(k: usize) -> Row {
         11 => RECEIVER,
         12 => TAKE,
         13 => AWAIT,
-        14 => CLOSED,
-        15 => NOTE,
-        16 => BODY,
-        17 => TRAILER,
+        14 => LIST,
+        15 => READ,
+        16 => FIELDS,
+        17 => CLOSED,
+        18 => NOTE,
+        19 => BODY,
+        20 => TRAILER,
         _ => NO_CALL,
     }
 }

@@ -1,20 +1,19 @@
 // The calls that look at numbers or put them: the constants, and the session and the receiver that are held. Each writes its line.
 use crate::arguments::Arguments;
-use crate::call::no_call;
 use crate::run::Run;
 use crate::tell;
 use held::Held;
 
 // W.
-pub(crate) fn constants(a: Arguments, run: Run) -> Run {
+pub(crate) fn constants(a: Arguments, is_quiet: bool) -> bool {
     let width = a.words.first;
     if (width != 32) & (width != 64) {
-        return no_call(run);
+        return tell::no_call();
     }
-    if run.is_quiet {
-        return run.told(tell::answer(0));
+    if is_quiet {
+        return tell::answer(0);
     }
-    run.told(tell::byte(b'0') & tell_constants(width == 64) & tell::byte(b'\n'))
+    tell::byte(b'0') & tell_constants(width == 64) & tell::byte(b'\n')
 }
 
 fn tell_constants(wide: bool) -> bool {
@@ -28,14 +27,14 @@ fn tell_constants(wide: bool) -> bool {
 }
 
 // 0, the words and the numbers.
-pub(crate) fn session(run: Run) -> Run {
+pub(crate) fn session(run: Run) -> bool {
     if run.is_quiet {
-        return run.told(tell::answer(0));
+        return tell::answer(0);
     }
-    let kept = run.kept;
-    let held = kept.session;
-    let place = held.place;
-    run.told(tell::byte(b'0') & tell_words(held) & tell::place(place) & tell::byte(b'\n'))
+    tell::byte(b'0')
+        & tell_words(run.kept.session)
+        & tell::place(run.kept.session.place)
+        & tell::byte(b'\n')
 }
 
 // The words of the session that is held, and those of its key.
@@ -51,9 +50,8 @@ fn tell_words(held: Held) -> bool {
 
 // NOTE BODY TRAILER L JOB REVISION STANDING.
 pub(crate) fn put(a: Arguments, mut run: Run) -> Run {
-    let words = a.words;
     let mut kept = run.kept;
-    let next = dispatch::put(words, kept.session);
+    let next = dispatch::put(a.words, kept.session);
     kept.session = next;
     run.kept = kept;
     run.told(tell::answer(0))
@@ -61,9 +59,8 @@ pub(crate) fn put(a: Arguments, mut run: Run) -> Run {
 
 // INDEX COMPLETE L.
 pub(crate) fn put_receiver(a: Arguments, mut run: Run) -> Run {
-    let words = a.words;
     let mut kept = run.kept;
-    let next = dispatch::jobs::put(words, kept.receiver);
+    let next = dispatch::jobs::put(a.words, kept.receiver);
     kept.receiver = next;
     run.kept = kept;
     run.told(tell::answer(0))

@@ -12,45 +12,52 @@ pub(crate) fn byte(b: u8) -> bool {
     io::write_all(STDOUT_FILENO, &one)
 }
 
+// The line of what is no call.
+pub(crate) fn no_call() -> bool {
+    io::write_all(STDOUT_FILENO, b"?\n")
+}
+
 // The line of a call that gives the number of its answer alone.
 pub(crate) fn answer(number: u32) -> bool {
     io::print_decimal(STDOUT_FILENO, number as u64) & byte(b'\n')
 }
 
-// The line of a call that has an output; where it is quiet, the answer alone.
-pub(crate) fn output(number: u32, out: &[u8], is_quiet: bool) -> bool {
+// The line of a call that has an output, and behind it, where a segment is taken, where the receiver waits now; where it is quiet, the answer alone.
+pub(crate) fn output(
+    number: u32,
+    out: &[u8],
+    is_quiet: bool,
+    is_taken: bool,
+    waiting: Waiting,
+) -> bool {
     if is_quiet {
         return answer(number);
     }
-    answer_and_output(number, out) & byte(b'\n')
+    let written = io::print_decimal(STDOUT_FILENO, number as u64) & byte(b' ') & bytes(out);
+    let waits = if is_taken {
+        next_waiting(waiting)
+    } else {
+        true
+    };
+    written & waits & byte(b'\n')
 }
 
-// The line of a segment that is taken: behind its output where the receiver waits now; where it is quiet, the answer alone.
-pub(crate) fn taken(number: u32, out: &[u8], waiting: Waiting, is_quiet: bool) -> bool {
-    if is_quiet {
-        return answer(number);
-    }
+// The index for which a receiver waits and whether it is complete, each behind a space.
+fn next_waiting(waiting: Waiting) -> bool {
     let complete = if waiting.complete { 1 } else { 0 };
-    answer_and_output(number, out)
-        & next_number(waiting.index as usize)
-        & next_number(complete)
-        & byte(b'\n')
-}
-
-fn answer_and_output(number: u32, out: &[u8]) -> bool {
-    io::print_decimal(STDOUT_FILENO, number as u64) & byte(b' ') & bytes(out)
+    next_number(waiting.index) & next_number(complete)
 }
 
 // Bytes in hexadecimal, as many as an output may have; `-` for none.
-fn bytes(bytes: &[u8]) -> bool {
+pub(crate) fn bytes(bytes: &[u8]) -> bool {
     let mut digits = room::digits();
     let n = spelled::write_bytes(bytes, &mut digits);
     io::write_all(STDOUT_FILENO, part(&digits, 0, n))
 }
 
 // A number behind a space.
-fn next_number(n: usize) -> bool {
-    byte(b' ') & io::print_decimal(STDOUT_FILENO, n as u64)
+pub(crate) fn next_number(n: u64) -> bool {
+    byte(b' ') & io::print_decimal(STDOUT_FILENO, n)
 }
 
 // A word behind a space, with all of its digits.
@@ -62,12 +69,12 @@ pub(crate) fn word(word: u64, wide: bool) -> bool {
 pub(crate) fn place(p: Place) -> bool {
     let standing = p.standing;
     let row = row_of(standing);
-    next_number(p.note)
-        & next_number(p.body)
-        & next_number(p.trailer)
-        & next_number(p.terms.rounds as usize)
-        & next_number(p.terms.edition.job as usize)
-        & next_number(p.terms.edition.revision as usize)
+    next_number(p.note as u64)
+        & next_number(p.body as u64)
+        & next_number(p.trailer as u64)
+        & next_number(p.terms.rounds as u64)
+        & next_number(p.terms.edition.job)
+        & next_number(p.terms.edition.revision)
         & byte(b' ')
         & io::write_all(STDOUT_FILENO, name(&row))
 }

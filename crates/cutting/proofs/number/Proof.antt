@@ -3,7 +3,6 @@
 use mathlib.Core.Path.{ap, _∙_}
 use borrow.Author.Needs.{needs}
 use Rattle.norx.specs.Norx.{bytesOf}
-use Rattle.norx.specs.Front.{eightBytes}
 use Rattle.cutting.specs.Cutting.{segmentNumber}
 use Rattle.cutting.proofs.Cuts.{eight-of}
 use Rattle.cutting.proofs.number.Statement.{statement}

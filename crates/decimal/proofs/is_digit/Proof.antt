@@ -1,0 +1,13 @@
+-- `decimal::is_digit`: the two tests of the definition.
+-- Assumes nothing.
+use mathlib.Core.Path.{refl}
+use Rattle.decimal.specs.Decimal.{isDigit}
+use Rattle.decimal.proofs.is_digit.Statement.{statement}
+use Rattle.decimal.proofs.is_digit.Tie as tie
+
+returns : tie.Need-returns
+unfolding isDigit
+returns c = refl
+
+pub is-digit-spec : {M : Type 1} → statement M
+is-digit-spec = tie.close (tie.spec returns)

@@ -1,0 +1,13 @@
+pub mod Lengths
+pub mod Indices
+pub mod Lines
+pub mod OneLine
+pub mod LineFields
+pub mod Listing
+pub mod Bad
+pub mod Parts
+pub mod Turns
+pub mod Writing
+pub mod Exact
+pub mod Example
+pub mod Unique
