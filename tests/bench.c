@@ -6,8 +6,8 @@
 #include <stdio.h>
 #include <stdlib.h>
 #include <string.h>
-#include <time.h>
 
+#include "bench.h"
 #include "jeczmilot.h"
 #include "norx.h"
 
@@ -43,36 +43,22 @@ static struct line lines[KINDS][SIZES];
 static uint8_t key[LONGEST_TAG], nonce[LONGEST_TAG];
 static uint8_t body[LARGEST], sealed[LARGEST + LONGEST_TAG], out[LARGEST + LONGEST_TAG];
 
-static double now(void)
-{
-    struct timespec time;
-
-    clock_gettime(CLOCK_MONOTONIC, &time);
-    return (double)time.tv_sec + 1e-9 * (double)time.tv_nsec;
-}
-
-static void stop(const char *why)
-{
-    fprintf(stderr, "%s\n", why);
-    exit(1);
-}
-
 static void seal_by(int side, const struct line *line)
 {
     size_t tag = line->width / 2;
 
-    if (seals[side](line->width, line->rounds, key, tag, nonce, tag, NULL, 0, body, line->size, NULL, 0, out,
-                    line->size + tag) != 0)
-        stop("sealing was refused");
+    demand(seals[side](line->width, line->rounds, key, tag, nonce, tag, NULL, 0, body, line->size, NULL, 0, out,
+                       line->size + tag) == 0,
+           "sealing was refused");
 }
 
 static void open_by(int side, const struct line *line)
 {
     size_t tag = line->width / 2;
 
-    if (opens[side](line->width, line->rounds, key, tag, nonce, tag, NULL, 0, sealed, line->size + tag, NULL, 0, out,
-                    line->size) != 0)
-        stop("opening was refused");
+    demand(opens[side](line->width, line->rounds, key, tag, nonce, tag, NULL, 0, sealed, line->size + tag, NULL, 0,
+                       out, line->size) == 0,
+           "opening was refused");
 }
 
 static double seconds_per_call(int side, const struct line *line)
@@ -97,8 +83,7 @@ static void prepare(const struct line *line)
     memcpy(sealed, out, sealed_len);
     memset(out, 0, sealed_len);
     seal_by(1, line);
-    if (memcmp(sealed, out, sealed_len) != 0)
-        stop("the two sides seal differently");
+    demand(memcmp(sealed, out, sealed_len) == 0, "the two sides seal differently");
 }
 
 /* The two sides take turns, and also take turns at being first. */

@@ -6,8 +6,8 @@
 #include <stdio.h>
 #include <stdlib.h>
 #include <string.h>
-#include <time.h>
 
+#include "bench.h"
 #include "jeczmilot.h"
 #include "lists.h"
 
@@ -42,22 +42,6 @@ struct line {
 static struct line lines[WORKS][SIZES];
 
 static uint8_t *text, *out;
-
-static double now_by(clockid_t clock)
-{
-    struct timespec time;
-
-    clock_gettime(clock, &time);
-    return (double)time.tv_sec + 1e-9 * (double)time.tv_nsec;
-}
-
-static void demand(int holds, const char *what)
-{
-    if (holds)
-        return;
-    fprintf(stderr, "%s\n", what);
-    exit(1);
-}
 
 static uint64_t segments_read(int side, const struct line *line)
 {
@@ -162,9 +146,9 @@ static uint8_t *allocate(size_t length)
 /* Goes over all lines again and again, so that a busy moment of the machine spoils none of them. */
 static void measure_all(void)
 {
-    double begin = now_by(CLOCK_MONOTONIC);
+    double begin = now();
 
-    for (int turn = 0; turn < LEAST_TURNS || now_by(CLOCK_MONOTONIC) - begin < run_seconds; turn++)
+    for (int turn = 0; turn < LEAST_TURNS || now() - begin < run_seconds; turn++)
         for (int size = 0; size < SIZES; size++) {
             prepare(&lines[READ][size]);
             for (int work = 0; work < WORKS; work++)

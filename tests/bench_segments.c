@@ -7,8 +7,8 @@
 #include <stdio.h>
 #include <stdlib.h>
 #include <string.h>
-#include <time.h>
 
+#include "bench.h"
 #include "jeczmilot.h"
 #include "segments.h"
 
@@ -49,22 +49,6 @@ static uint8_t key[LONGEST_TAG], nonce[LONGEST_TAG];
 static uint8_t body[JOB_BYTES], out[JOB_BYTES], whole[JOB_BYTES + LONGEST_TAG];
 
 static uint8_t segments[SEGMENTS][JECZMILOT_SEGMENT_BYTES + LONGEST_TAG];
-
-static double now(void)
-{
-    struct timespec time;
-
-    clock_gettime(CLOCK_MONOTONIC, &time);
-    return (double)time.tv_sec + 1e-9 * (double)time.tv_nsec;
-}
-
-static void demand(int holds, const char *what)
-{
-    if (holds)
-        return;
-    fprintf(stderr, "%s\n", what);
-    exit(1);
-}
 
 static void seal_whole(uint32_t width)
 {

@@ -10,6 +10,7 @@ static void one_large_body(struct message *message, struct instance instance, in
     struct prng prng;
     struct lengths lengths;
     struct call open;
+    size_t place;
 
     if (!case_begins("large %u %u %d", instance.width, instance.rounds, repeat))
         return;
@@ -19,7 +20,8 @@ static void one_large_body(struct message *message, struct instance instance, in
     lengths.trailer = prng_below(&prng, LARGEST_EDGE);
     message_fill(message, instance, lengths, &prng);
     compare_there_and_back(message);
-    message->sealed[prng_below(&prng, sealed_length(message))] ^= (uint8_t)(1 << prng_below(&prng, 8));
+    place = prng_below(&prng, sealed_length(message));
+    message->sealed[place] ^= (uint8_t)(1 << prng_below(&prng, 8));
     open = open_call(message);
     compare_call(&open, BAD_TAG);
 }

@@ -34,8 +34,9 @@ size_t list_length(const struct listed *listed)
 
 uint64_t any_number(struct prng *prng)
 {
-    uint64_t number = prng_next(prng) >> prng_below(prng, 64);
+    uint64_t number = prng_next(prng);
 
+    number >>= prng_below(prng, 64);
     switch (prng_below(prng, 4)) {
     case 0:
         number = 1;
@@ -47,6 +48,15 @@ uint64_t any_number(struct prng *prng)
     default:
         return number;
     }
+}
+
+struct listed any_edition(struct prng *prng)
+{
+    struct listed listed = {.length = 0};
+
+    listed.job = any_number(prng);
+    listed.revision = any_number(prng);
+    return listed;
 }
 
 void text_add_bytes(struct text *text, const void *bytes, size_t length)

@@ -24,6 +24,9 @@ size_t list_length(const struct listed *listed);
 /* A number of any count of digits, or near a power of ten or the largest. */
 uint64_t any_number(struct prng *prng);
 
+/* Any job and any revision, and an empty body. */
+struct listed any_edition(struct prng *prng);
+
 /* A short text, made piece by piece. */
 struct text {
     char bytes[LONGEST_TEXT];

@@ -23,7 +23,8 @@ void listed_jobs(void)
         if (!case_begins("listed job %d", number))
             continue;
         prng = case_prng();
-        listed = (struct listed){any_number(&prng), any_number(&prng), any_length(number, &prng)};
+        listed = any_edition(&prng);
+        listed.length = any_length(number, &prng);
         compare_list_there_and_back(&listed);
     }
 }

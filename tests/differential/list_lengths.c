@@ -37,7 +37,8 @@ static void one_large_length(int number)
     if (!case_begins("list length large %d", number))
         return;
     prng = case_prng();
-    listed = (struct listed){any_number(&prng), any_number(&prng), prng_next(&prng) % (list_body_limit + 1)};
+    listed = any_edition(&prng);
+    listed.length = prng_next(&prng) % (list_body_limit + 1);
     compare_list_length(&listed, list_length(&listed));
 }
 

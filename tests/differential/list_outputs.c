@@ -26,7 +26,8 @@ static void one_job(uint64_t length, int repeat)
     if (!case_begins("list output of length %" PRIu64 " %d", length, repeat))
         return;
     prng = case_prng();
-    listed = (struct listed){any_number(&prng), any_number(&prng), length};
+    listed = any_edition(&prng);
+    listed.length = length;
     other_outputs(&listed);
     compare_list_write(&listed, list_length(&listed), DONE);
 }

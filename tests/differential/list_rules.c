@@ -130,15 +130,17 @@ static void some_breaks(int number)
 {
     struct prng prng;
     struct lines lines;
+    size_t count;
 
     if (!case_begins("list rule breaks %d", number))
         return;
     prng = case_prng();
-    lines = list_of(1 + prng_below(&prng, MOST_LINES), 1 + prng_below(&prng, SEGMENT_BYTES));
+    count = 1 + prng_below(&prng, MOST_LINES);
+    lines = list_of(count, 1 + prng_below(&prng, SEGMENT_BYTES));
     for (size_t breaks = prng_below(&prng, 4); breaks > 0; breaks--) {
-        uint64_t *broken = &lines.numbers[prng_below(&prng, lines.count)][prng_below(&prng, FIELDS)];
+        size_t line = prng_below(&prng, lines.count), field = prng_below(&prng, FIELDS);
 
-        *broken = prng_below(&prng, 2) == 0 ? prng_below(&prng, SEGMENT_BYTES + 2) : any_number(&prng);
+        lines.numbers[line][field] = prng_below(&prng, 2) == 0 ? prng_below(&prng, SEGMENT_BYTES + 2) : any_number(&prng);
     }
     compare_lines(&lines);
 }

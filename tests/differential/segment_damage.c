@@ -79,9 +79,11 @@ static void exchange_job_and_revision(struct message *message, struct call *open
 /* Another byte, or one byte less, or one more; an empty note can only get one more. */
 static void change_note(struct message *message, struct call *open, size_t variant, struct prng *prng)
 {
-    if (variant == 0 && open->header.length > 0)
-        message->header[prng_below(prng, open->header.length)] ^= (uint8_t)(1 + prng_below(prng, 255));
-    else if (variant == 1 && open->header.length > 0)
+    if (variant == 0 && open->header.length > 0) {
+        size_t place = prng_below(prng, open->header.length);
+
+        message->header[place] ^= (uint8_t)(1 + prng_below(prng, 255));
+    } else if (variant == 1 && open->header.length > 0)
         open->header.length--;
     else
         message->header[open->header.length++] = 0;
@@ -114,12 +116,14 @@ static void one_damage(struct message *message, struct instance instance, const 
     struct prng prng;
     struct place place;
     struct call open;
+    size_t note_length;
 
     if (!case_begins("segment damage %u %u %s %zu %d", instance.width, instance.rounds, damage->name, variant, repeat))
         return;
     prng = case_prng();
     place = place_at(prng_below(&prng, LAST_INDEX + 1), 1, &prng);
-    segment_fill(message, instance, place, prng_below(&prng, 200), 1 + prng_below(&prng, 300), &prng);
+    note_length = prng_below(&prng, 200);
+    segment_fill(message, instance, place, note_length, 1 + prng_below(&prng, 300), &prng);
     open = segment_call(message, SEGMENT_OPEN);
     damage->apply(message, &open, variant, &prng);
     compare_call(&open, BAD_TAG);

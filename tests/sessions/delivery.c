@@ -5,8 +5,10 @@
 /* A long note is of one value, so that its calls stay short. */
 static void note_at_its_limit(struct message *message, struct prng *prng)
 {
+    uint8_t value = (uint8_t)prng_next(prng);
+
     message->parts[NOTE].length = FRONT_BYTES;
-    buffer_fill(&message->parts[NOTE], (uint8_t)prng_next(prng), part_limits[NOTE] + prng_below(prng, 2));
+    buffer_fill(&message->parts[NOTE], value, part_limits[NOTE] + prng_below(prng, 2));
 }
 
 static void make_body(struct delivery *d, size_t length, struct prng *prng)

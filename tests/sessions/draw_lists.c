@@ -62,8 +62,9 @@ void send_list(struct maker *m, bool is_bent)
 void send_far_list(struct maker *m)
 {
     struct edition edition = draw_edition(&m->prng);
+    uint64_t length = draw_far_body(&m->prng);
 
-    send_writing(m, edition, draw_far_body(&m->prng), chance(m, 4));
+    send_writing(m, edition, length, chance(m, 4));
 }
 
 /* Sometimes two lists, one behind the other. */

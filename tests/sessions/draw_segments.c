@@ -103,8 +103,10 @@ void send_take(struct maker *m, bool is_bent)
 /* Another key or another job nonce, by one bit. */
 static struct bytes other_secret(struct maker *m, struct bytes right, uint8_t changed[LONGEST_TAG])
 {
+    uint8_t bit = (uint8_t)(1 << prng_below(&m->prng, 8));
+
     memcpy(changed, right.at, right.length);
-    changed[prng_below(&m->prng, right.length)] ^= (uint8_t)(1 << prng_below(&m->prng, 8));
+    changed[prng_below(&m->prng, right.length)] ^= bit;
     return (struct bytes){changed, right.length};
 }
 

@@ -1,8 +1,8 @@
 -- Chains of refusals: put together link by link, and what is known where one gives no refusal.
 -- Assumes nothing.
 use mathlib.Core.Path.{_≡_, refl, sym, ap, ap₂, _∙_}
-use mathlib.Core.Bool.{Bool, true, false, _&&_, false≢true}
-use mathlib.Core.Logic.{_≢_}
+use mathlib.Core.Bool.{Bool, true, false, _&&_, _||_, false≢true}
+use mathlib.Core.Logic.{_≢_, _⊎_, inl, inr}
 use Prim.Native.Nat.{ℕ}
 use native.Mathlib.Omega.{arith}
 use borrow.Author.Tests.{eqb-true, eq-eqb}
@@ -49,3 +49,12 @@ both false b e = let z : _≡_ {A = ℕ} 0 1 = cc in let no : ⊥ = omega arith 
 pub and-true : (a b : Bool) → a ≡ true → b ≡ true → (a && b) ≡ true
 and-true true b e f = f
 and-true false b e f = absurd (false≢true e)
+
+pub one-of : (a b : Bool) → (a || b) ≡ true → (a ≡ true) ⊎ (b ≡ true)
+one-of true b e = inl refl
+one-of false b e = inr e
+
+pub or-true : (a b : Bool) → (a ≡ true) ⊎ (b ≡ true) → (a || b) ≡ true
+or-true true b e = refl
+or-true false b (inl e) = absurd (false≢true e)
+or-true false b (inr e) = e

@@ -2,19 +2,18 @@
 -- Assumes nothing.
 use mathlib.Core.Path.{_≡_, refl, sym, ap, _∙_}
 use mathlib.Core.List.{_∷_}
-use mathlib.Core.Logic.{⊎-elim}
-use mathlib.Core.Bool.{Bool, true, false, _&&_, _||_, cond, false≢true}
+use mathlib.Core.Logic.{_⊎_, inl, inr, ⊎-elim}
+use mathlib.Core.Bool.{Bool, true, false, _&&_, _||_, cond}
 use Prim.Native.Nat.{ℕ, zero, suc, _+_, _*_, _/_, _%_, _≤_, _<_}
 use native.Mathlib.Omega.{arith}
 use native.Mathlib.Nat.{mul-assoc}
-use native.Mathlib.Decide.{decLt}
 use borrow.Author.Tests.{le-leb, lt-leb, leb-true, lt-ltb, ltb-true, eq-eqb, eqb-true}
 use lib.Dec.{leb, ltb, eqb}
 use Rattle.norx.specs.Norx.{bytesOf}
 use Rattle.norx.specs.Front.{eightBytes}
 use Rattle.rules.specs.Rules.{segmentBytes, mostSegments}
 use Rattle.answers.proofs.Tests.{either, cond-true, cond-false}
-use Rattle.answers.proofs.Chain.{both, and-true}
+use Rattle.answers.proofs.Chain.{both, and-true, one-of, or-true}
 use Rattle.cutting.specs.Cutting.{countOf, beginOf, endOf, segmentOk, segmentNumber}
 
 -- i segments are in n bytes or not
@@ -82,31 +81,23 @@ module _ (n k : ℕ) where
 
 -- ---- the length of a segment that may be the last
 
-pub last-rule : (i n : ℕ) → segmentOk i true n ≡ true → (n ≤ segmentBytes) × (1 ≤ i → 1 ≤ n) × (i < mostSegments)
+pub last-rule : (i n : ℕ) → segmentOk i true n ≡ true → (n ≤ segmentBytes) × (((1 ≤ n) ⊎ (i ≡ 0)) × (i < mostSegments))
 unfolding segmentOk
 last-rule i n e =
     let a = both (leb n segmentBytes && (ltb 0 n || eqb i 0)) (ltb i mostSegments) e in
-    let b = both (leb n segmentBytes) (ltb 0 n || eqb i 0) (a .0) in (
-      leb-true n segmentBytes (b .0),
-      λ p.
-          ⊎-elim (λ (t : ltb 0 n ≡ true). ltb-true 0 n t)
-          (λ (f : ltb 0 n ≡ false). let z : i ≡ 0 = eqb-true i 0 (sym (ap (λ (c : Bool). c || eqb i 0) f) ∙ b .1) in absurd (omega arith)) (either (ltb 0 n)),
-      ltb-true i mostSegments (a .1),
-    )
-
-pub last-ok : (i n : ℕ) → n ≤ segmentBytes → (1 ≤ i → 1 ≤ n) → i < mostSegments → segmentOk i true n ≡ true
-unfolding segmentOk
-last-ok i n most some few =
-    let one : (ltb 0 n || eqb i 0) ≡ true =
-    ⊎-elim (λ (t : ltb 0 n ≡ true). ap (λ (c : Bool). c || eqb i 0) t)
-    (λ (f : ltb 0 n ≡ false).
-    let z : i ≡ 0 = first f in
-    ap (λ (c : Bool). c || eqb i 0) f ∙ eq-eqb i 0 z) (either (ltb 0 n)) in
-    and-true (leb n segmentBytes && (ltb 0 n || eqb i 0)) (ltb i mostSegments) (and-true (leb n segmentBytes) (ltb 0 n || eqb i 0) (le-leb n segmentBytes most) one) (lt-ltb i mostSegments few)
+    let b = both (leb n segmentBytes) (ltb 0 n || eqb i 0) (a .0) in
+    (leb-true n segmentBytes (b .0), (some (one-of (ltb 0 n) (eqb i 0) (b .1)), ltb-true i mostSegments (a .1)))
   where
-    first : ltb 0 n ≡ false → i ≡ 0
-    first f = of (decLt 0 i)
-      where
-        of : Dec (0 < i) → i ≡ 0
-        of (yes p) = absurd (false≢true (sym f ∙ lt-ltb 0 n (some p)))
-        of (no h) = omega arith
+    some : (ltb 0 n ≡ true) ⊎ (eqb i 0 ≡ true) → (1 ≤ n) ⊎ (i ≡ 0)
+    some (inl h) = inl (ltb-true 0 n h)
+    some (inr h) = inr (eqb-true i 0 h)
+
+pub last-ok : (i n : ℕ) → n ≤ segmentBytes → (1 ≤ n) ⊎ (i ≡ 0) → i < mostSegments → segmentOk i true n ≡ true
+unfolding segmentOk
+last-ok i n most one few =
+    and-true (leb n segmentBytes && (ltb 0 n || eqb i 0)) (ltb i mostSegments)
+    (and-true (leb n segmentBytes) (ltb 0 n || eqb i 0) (le-leb n segmentBytes most) (or-true (ltb 0 n) (eqb i 0) (some one))) (lt-ltb i mostSegments few)
+  where
+    some : (1 ≤ n) ⊎ (i ≡ 0) → (ltb 0 n ≡ true) ⊎ (eqb i 0 ≡ true)
+    some (inl h) = inl (lt-ltb 0 n h)
+    some (inr h) = inr (eq-eqb i 0 h)

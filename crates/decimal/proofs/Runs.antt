@@ -10,7 +10,7 @@ use native.Mathlib.Numerals.{add-one}
 use borrow.Author.Tests.{le-leb, lt-leb}
 use lib.ListN.{length, take, drop, getD, length-append, drop-of-length-le}
 use lib.Seq.{drop-cons, take-append-seam}
-use Rattle.decimal.specs.Decimal.{digit, numText, isDigit, digitsOf, NumberIs, FoundIs}
+use Rattle.decimal.specs.Decimal.{numText, isDigit, digitsOf, NumberIs, FoundIs}
 use Rattle.decimal.specs.declared.Number.the-variants.{Value, Nothing}
 use Rattle.decimal.specs.declared.Found.{Found}
 use Rattle.decimal.specs.declared.Found.the-variants.{Here, NoNumber}

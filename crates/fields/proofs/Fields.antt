@@ -2,12 +2,12 @@
 -- Assumes nothing.
 use mathlib.Core.Path.{_≡_, refl, sym, ap, ap₂, _∙_}
 use mathlib.Core.Bool.{Bool, true, false, cond}
-use mathlib.Core.Logic.{_⊎_, inl, inr, ⊎-elim}
+use mathlib.Core.Logic.{⊎-elim}
 use mathlib.Core.List.{List, [], _∷_}
 use Prim.Native.Nat.{ℕ, suc, _+_, _-_, _<_, _≤_}
 use native.Mathlib.Omega.{arith}
 use native.Mathlib.Decide.{decLt}
-use native.Mathlib.Nat.{le-refl}
+use native.Mathlib.Nat.{le-refl, eq-or-lt-of-le}
 use native.Mathlib.Numerals.{add-one}
 use borrow.Author.Tests.{lt-ltb, le-ltb}
 use lib.ListN.{length, getD, take, drop, drop-of-length-le}
@@ -45,22 +45,17 @@ within-lt t at h = rw (lt-ltb at (length t) h)
 pub within-ge : (t : List ℕ) (at : ℕ) → length t ≤ at → within t at ≡ length t
 within-ge t at h = rw (le-ltb at (length t) h)
 
-lt-or-ge : (m n : ℕ) → (m < n) ⊎ (n ≤ m)
-lt-or-ge m n = of (decLt m n)
-  where
-    of : Dec (m < n) → (m < n) ⊎ (n ≤ m)
-    of (yes h) = inl h
-    of (no h) = inr (omega arith)
-
 pub within-le : (t : List ℕ) (n : ℕ) → n ≤ length t → within t n ≡ n
-within-le t n h = ⊎-elim (λ l. within-lt t n l) (λ g. within-ge t n g ∙ omega arith) (lt-or-ge n (length t))
+within-le t n h = ⊎-elim (λ e. within-ge t n (omega arith) ∙ sym e) (λ l. within-lt t n l) (eq-or-lt-of-le h)
 
 drop-within : (t : List ℕ) (at : ℕ) → drop (within t at) t ≡ drop at t
-drop-within t at =
-    ⊎-elim (λ l. ap (λ (n : ℕ). drop n t) (within-lt t at l))
-    (λ g.
-    ap (λ (n : ℕ). drop n t) (within-ge t at g) ∙ drop-of-length-le t {i = length t} (le-refl (length t))
-    ∙ sym (drop-of-length-le t {i = at} g)) (lt-or-ge at (length t))
+drop-within t at = of (decLt at (length t))
+  where
+    of : Dec (at < length t) → drop (within t at) t ≡ drop at t
+    of (yes l) = ap (λ (n : ℕ). drop n t) (within-lt t at l)
+    of (no h) =
+        let g : length t ≤ at = omega arith in
+        ap (λ (n : ℕ). drop n t) (within-ge t at g) ∙ drop-of-length-le t {i = length t} (le-refl (length t)) ∙ sym (drop-of-length-le t {i = at} g)
 
 -- ---- The field that the code puts together
 

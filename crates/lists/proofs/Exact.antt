@@ -16,7 +16,6 @@ use Rattle.lists.specs.Lists.{lineText, listText, IsList}
 use Rattle.lists.specs.Lines.{FirstBad}
 use Rattle.lists.specs.Written.{writeAnswer, CanWrite}
 use Rattle.lists.specs.Promises.{TakesExactly, ReadsBack, ReadsOneWay, RefusesEmpty}
-use Rattle.lists.specs.declared.Reading.{Reading}
 use Rattle.lists.specs.declared.Reading.the-variants.{Taken, Refused}
 use Rattle.lists.proofs.Listing.{list-once}
 use Rattle.lists.proofs.Bad.{bad-no-list, bad-first}

@@ -7,10 +7,13 @@ use mathlib.Core.List.{List, [], _∷_, _++_, append-assoc}
 use Prim.Native.Nat.{ℕ, _+_, _-_, _<_, _≤_, _^_}
 use native.Mathlib.Omega.{arith}
 use native.Mathlib.Numerals.{add-one}
+use borrow.Author.Tests.{lt-ltb, ltb-true, eq-eqb, eqb-true}
+use lib.Dec.{ltb, eqb}
 use lib.ListN.{length, take, drop, getD, length-append, length-drop, take-append-drop}
-use lib.Seq.{drop-cons, drop-drop, getD-drop, getD-append-seam, length-take-le, take-at, drop-at, take-suc, getD-take}
+use lib.Seq.{drop-cons, drop-drop, getD-drop, getD-append-seam, length-take-le, take-at, drop-at, take-take, take-add}
 use Rattle.norx.specs.Norx.{same}
 use Rattle.answers.proofs.Tests.{either}
+use Rattle.answers.proofs.Chain.{both, and-true}
 use Rattle.norx.proofs.Opening.{same-true, same-refl}
 use Rattle.rules.specs.Rules.{segmentBytes}
 use Rattle.cutting.specs.Cutting.{segmentOk}
@@ -21,7 +24,7 @@ use Rattle.decimal.proofs.Runs.{run-then, run-split}
 use Rattle.fields.specs.Fields.{tab, newline}
 use Rattle.lists.specs.Lists.{lineText}
 use Rattle.lists.specs.Pieces.{restText}
-use Rattle.lists.specs.Places.{PartIs, LineIs, RestIs, SegmentIs}
+use Rattle.lists.specs.Places.{endedBy, PartIs, LineIs, RestIs, SegmentIs}
 use Rattle.lists.specs.declared.line.Part.the-variants.{Number, NoPart}
 use Rattle.lists.specs.declared.line.Line.the-variants.{Fields, NoLine}
 use Rattle.lists.specs.declared.line.Segment.{Segment}
@@ -29,6 +32,17 @@ use Rattle.lists.specs.declared.line.Segment.the-variants.{Length, NoSeg
 use Rattle.lists.proofs.OneLine.{from-body, from-index, from-revision, line-fields, rest-fields, num-then}
 
 -- ---- A number and what ends it
+
+pub ended-is : (t : List ℕ) (at stop : ℕ) → endedBy t at stop ≡ true → (at < length t) × (getD t at 0 ≡ stop)
+unfolding endedBy
+ended-is t at stop e =
+    let a = both (ltb at (length t)) (eqb (getD t at 0) stop) e in
+    (ltb-true at (length t) (a .0), eqb-true (getD t at 0) stop (a .1))
+
+ended-by : (t : List ℕ) (at stop : ℕ) → at < length t → getD t at 0 ≡ stop → endedBy t at stop ≡ true
+unfolding endedBy
+ended-by t at stop h e =
+    and-true (ltb at (length t)) (eqb (getD t at 0) stop) (lt-ltb at (length t) h) (eq-eqb (getD t at 0) stop e)
 
 module _ (t : List ℕ) (at stop : ℕ) (no-digit : stop < 48) where
   -- where a number and stop stand at the place, these are its digits
@@ -38,17 +52,19 @@ module _ (t : List ℕ) (at stop : ℕ) (no-digit : stop < 48) where
   pub part-none : FoundIs t at NoNumber → PartIs t at stop NoPart
   part-none none v rest lt e = none v lt (the-digits v rest e)
 
-  pub part-cut : (v end : ℕ) → FoundIs t at (Here v end) → length t ≤ end → PartIs t at stop NoPart
-  part-cut v end p h w rest lt e =
-      omega (arith, p .1, ap length (the-digits w rest e), ap length e, length-drop at t, length-append (numText w) (stop ∷ rest))
+  pub part-other : (v end : ℕ) → FoundIs t at (Here v end) → endedBy t end stop ≡ false → PartIs t at stop NoPart
+  part-other v end p fails w rest lt e =
+      let there : end < length t =
+      omega (arith, p .1, ap length (the-digits w rest e), ap length e, length-drop at t, length-append (numText w) (stop ∷ rest)) in
+      let is : getD t end 0 ≡ stop =
+      ap (λ (k : ℕ). getD t k 0) (p .1 ∙ ap (λ (l : List ℕ). at + length l) (the-digits w rest e)) ∙ sym (getD-drop at t (length (numText w)) 0)
+      ∙ ap (λ (l : List ℕ). getD l (length (numText w)) 0) e ∙ getD-append-seam (numText w) stop rest 0 in
+      false≢true (sym fails ∙ ended-by t end stop there is)
 
-  pub part-other : (v end : ℕ) → FoundIs t at (Here v end) → (getD t end 0 ≡ stop → ⊥) → PartIs t at stop NoPart
-  part-other v end p h w rest lt e =
-      h (ap (λ (k : ℕ). getD t k 0) (p .1 ∙ ap (λ (l : List ℕ). at + length l) (the-digits w rest e)) ∙ sym (getD-drop at t (length (numText w)) 0)
-      ∙ ap (λ (l : List ℕ). getD l (length (numText w)) 0) e ∙ getD-append-seam (numText w) stop rest 0)
-
-  pub part-is : (v end : ℕ) → FoundIs t at (Here v end) → end < length t → getD t end 0 ≡ stop → PartIs t at stop (Number v (end + 1))
-  part-is v end p h e =
+  pub part-is : (v end : ℕ) → FoundIs t at (Here v end) → endedBy t end stop ≡ true → PartIs t at stop (Number v (end + 1))
+  part-is v end p holds =
+      let h : end < length t = ended-is t end stop holds .0 in
+      let e : getD t end 0 ≡ stop = ended-is t end stop holds .1 in
       let d : List ℕ = digitsOf (drop at t) in (
         p .0 .0,
         omega (arith, p .1),
@@ -151,25 +167,41 @@ module _ (t : List ℕ) (at i : ℕ) where
 
 -- ---- Behind a front
 
--- the bytes at a place compared with the first ones, up to the i-th
-module _ (t : List ℕ) (at n : ℕ) (room : at + n ≤ length t) where
-  pub alike-more : (i : ℕ) → i < n → take i (drop at t) ≡ take i t → getD t (at + i) 0 ≡ getD t i 0 → take (i + 1) (drop at t) ≡ take (i + 1) t
-  alike-more i h e b =
-      let there : i < length (drop at t) = omega (arith, length-drop at t) in
-      rw add-one (take-suc (drop at t) i 0 there ∙ ap₂ (λ (x : List ℕ) (y : ℕ). x ++ (y ∷ [])) e (getD-drop at t i 0 ∙ b) ∙ sym (take-suc t i 0 (omega arith)))
+-- where two texts have the same first n bytes, they have the same k at a place among these
+stretch : (k i n : ℕ) (l m : List ℕ) → i ≤ length l → i ≤ length m → i + k ≤ n → take n l ≡ take n m → take k (drop i l) ≡ take k (drop i m)
+stretch k i n l m hl hm within e = sym (cut l hl) ∙ ap (λ (x : List ℕ). drop i (take (i + k) x)) e ∙ cut m hm
+  where
+    cut : (x : List ℕ) → i ≤ length x → drop i (take (i + k) (take n x)) ≡ take k (drop i x)
+    cut x h =
+        ap (drop i) (take-take (i + k) n x within ∙ take-add i k x) ∙ drop-at (take i x) (take k (drop i x)) i (length-take-le i x h)
 
-  pub alike-not : (i : ℕ) → i < n → (getD t (at + i) 0 ≡ getD t i 0 → ⊥) → same (take n (drop at t)) (take n t) ≡ false
-  alike-not i h differs =
+-- the bytes at a place compared with the first ones, some at a time
+module _ (t : List ℕ) (at n : ℕ) (room : at + n ≤ length t) where
+  pub alike-more : (k i : ℕ) → take i (drop at t) ≡ take i t → same (take k (drop (at + i) t)) (take k (drop i t)) ≡ true → take (i + k) (drop at t) ≡ take (i + k) t
+  alike-more k i e b =
+      take-add i k (drop at t)
+      ∙ ap₂ (λ (x y : List ℕ). x ++ y) e (ap (take k) (drop-drop i at t) ∙ same-true (take k (drop (at + i) t)) (take k (drop i t)) b) ∙ sym (take-add i k t)
+
+  pub alike-not : (k i : ℕ) → i + k ≤ n → same (take k (drop (at + i) t)) (take k (drop i t)) ≡ false → same (take n (drop at t)) (take n t) ≡ false
+  alike-not k i within differs =
       ⊎-elim
       (λ (e : same (take n (drop at t)) (take n t) ≡ true).
-      absurd (differs (sym (getD-drop at t i 0) ∙ sym (getD-take n (drop at t) i 0 h) ∙ ap (λ (l : List ℕ). getD l i 0) (same-true (take n (drop at t)) (take n t) e) ∙ getD-take n t i 0 h)))
+      let s = stretch k i n (drop at t) t (omega (arith, length-drop at t)) (omega arith) within (same-true (take n (drop at t)) (take n t) e) in
+      let here : take k (drop (at + i) t) ≡ take k (drop i t) = ap (take k) (sym (drop-drop i at t)) ∙ s in
+      absurd (false≢true (sym differs ∙ ap (λ (x : List ℕ). same x (take k (drop i t))) here ∙ same-refl (take k (drop i t)))))
       (λ (e : same (take n (drop at t)) (take n t) ≡ false). e) (either (same (take n (drop at t)) (take n t)))
 
-  pub alike-all : (i : ℕ) → i ≤ n → n ≤ i → take i (drop at t) ≡ take i t → same (take n (drop at t)) (take n t) ≡ true
-  alike-all i h g e =
-      let all : i ≡ n = omega arith in
-      let same-front : take n (drop at t) ≡ take n t = ap (λ (k : ℕ). take k (drop at t)) (sym all) ∙ e ∙ ap (λ (k : ℕ). take k t) all in
-      ap (λ (l : List ℕ). same l (take n t)) same-front ∙ same-refl (take n t)
+  -- the last k, where those before them and perhaps more are alike
+  pub alike-last : (k i last : ℕ) → last + k ≡ n → last ≤ i → take i (drop at t) ≡ take i t
+      → same (take k (drop (at + last) t)) (take k (drop last t)) ≡ same (take n (drop at t)) (take n t)
+  alike-last k i last whole past e =
+      let before : take last (drop at t) ≡ take last t = sym (take-take last i (drop at t) past) ∙ ap (take last) e ∙ take-take last i t past in
+      ⊎-elim
+      (λ (b : same (take k (drop (at + last) t)) (take k (drop last t)) ≡ true).
+      let all : take n (drop at t) ≡ take n t =
+      ap (λ (m : ℕ). take m (drop at t)) (sym whole) ∙ alike-more k last before b ∙ ap (λ (m : ℕ). take m t) whole in
+      b ∙ sym (same-refl (take n t)) ∙ ap (λ (x : List ℕ). same x (take n t)) (sym all))
+      (λ (b : same (take k (drop (at + last) t)) (take k (drop last t)) ≡ false). b ∙ sym (alike-not k last (omega arith) b)) (either (same (take k (drop (at + last) t)) (take k (drop last t))))
 
 module _ (t : List ℕ) (at front i : ℕ) (within : front ≤ length t) where
   -- where a line with the text's front stands, so do its first bytes

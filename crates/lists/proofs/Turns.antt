@@ -1,7 +1,8 @@
 -- Reading line by line: before each turn what was read is a list of so many lines.
 -- Assumes nothing.
-use mathlib.Core.Path.{_≡_, sym, ap, _∙_}
+use mathlib.Core.Path.{_≡_, refl, sym, ap, _∙_}
 use mathlib.Core.Bool.{true, false, _&&_, false≢true}
+use mathlib.Core.Logic.{inl, inr, ⊎-elim}
 use mathlib.Core.List.{List, _++_, append-assoc, append-nil}
 use Prim.Native.Nat.{ℕ, _+_, _*_, _<_, _≤_, _^_}
 use native.Mathlib.Omega.{arith}
@@ -50,7 +51,7 @@ module _ (t : List ℕ) (j r i n next : ℕ) (line : LineIs t 0 (Fields j r i n 
       bad-first t (λ j′ r′ l more hj hr hl e.
       let s = line-once j′ r′ 0 l j r i n more (drop next t) (sym e ∙ line .4 .text) in
       let holds : (eqb i 0 && segmentOk 0 true n) ≡ true =
-      and-true (eqb i 0) (segmentOk 0 true n) (eq-eqb i 0 (sym (s .2))) (last-ok 0 n (omega (arith, s .3)) (λ p. absurd (omega arith)) (omega arith)) in
+      and-true (eqb i 0) (segmentOk 0 true n) (eq-eqb i 0 (sym (s .2))) (last-ok 0 n (omega (arith, s .3)) (inr refl) (omega arith)) in
       false≢true (sym fails ∙ holds))
 
   pub starts : (front : ℕ) → front ≡ length (frontText j r) → isFirst i n ≡ true → Read t front j r n 1 next
@@ -72,15 +73,15 @@ module _ (t : List ℕ) (front j r n k at : ℕ) (read : Read t front j r n k at
   pub goes-on : (l next : ℕ) → n ≡ k * segmentBytes → SegmentIs t at front k (Length l next) → Read t front j r (n + l) (k + 1) next
   goes-on l next full q =
       let rule = last-rule k l (q .0) in
-      let some : 1 ≤ l = rule .1 (omega (arith, count-some n, read .counted)) in
-      let can : CanFollow n k l = record { full = full; few = rule .2; some = some; most = rule .0 } in
+      let some : 1 ≤ l = ⊎-elim (λ (p : 1 ≤ l). p) (λ (z : k ≡ 0). absurd (omega (arith, count-some n, read .counted))) (rule .1 .0) in
+      let can : CanFollow n k l = record { full = full; few = rule .1 .1; some = some; most = rule .0 } in
       let g = next-good j r t (drop at t) (drop next t) n k l (read .counted) can (read .text) (q .1 .text ∙ ap (λ (x : List ℕ). x ++ drop next t) (the-line l)) in
       record {
         front-within = read .front-within;
         fronted = read .fronted;
         job-fits = read .job-fits;
         revision-fits = read .revision-fits;
-        few = omega (arith, rule .2);
+        few = omega (arith, rule .1 .1);
         counted = sym (g .0);
         within = omega (arith, rule .0);
         place = q .1 .inside;
@@ -97,7 +98,7 @@ module _ (t : List ℕ) (front j r n k at : ℕ) (read : Read t front j r n k at
 
   pub other-next : at < length t → SegmentIs t at front k NoSegment → FirstBad t (k + 1)
   other-next h none =
-      bad h (λ l more can e. none l more (last-ok k l (can .most) (λ p. can .some) (can .few)) (e ∙ ap (λ (x : List ℕ). x ++ more) (sym (the-line l))))
+      bad h (λ l more can e. none l more (last-ok k l (can .most) (inl (can .some)) (can .few)) (e ∙ ap (λ (x : List ℕ). x ++ more) (sym (the-line l))))
 
   pub ends : length t ≤ at → ReadAs t (Taken j r k n)
   ends h = (

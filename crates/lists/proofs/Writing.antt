@@ -6,7 +6,7 @@ use mathlib.Core.Logic.{⊎-elim}
 use mathlib.Core.List.{List, [], _∷_, _++_, append-assoc, append-nil}
 use Prim.Native.Nat.{ℕ, zero, suc, _+_, _-_, _*_, _<_, _≤_, _^_}
 use native.Mathlib.Omega.{arith}
-use native.Mathlib.Nat.{zero-add, suc-mul, lt-of-lt-of-le}
+use native.Mathlib.Nat.{zero-add, suc-mul, add-mul, lt-of-lt-of-le}
 use native.Mathlib.Numerals.{add-one}
 use borrow.Author.Tests.{le-leb, lt-leb, leb-true, eqb-true, eq-eqb}
 use lib.Dec.{leb, eqb, lit≤}
@@ -24,7 +24,7 @@ use Rattle.decimal.specs.Laid.{laid, putAt, putEnd}
 use Rattle.decimal.proofs.Digits.{length-below}
 use Rattle.decimal.proofs.Lay.{length-laid, laid-one, laid-next, laid-all, put-room}
 use Rattle.fields.specs.Fields.{tab, newline}
-use Rattle.lists.specs.Lists.{lineOf, lineText, segmentLength, linesOf, lineAt, listText}
+use Rattle.lists.specs.Lists.{lineOf, segmentLength, linesOf, lineAt, listText}
 use Rattle.lists.specs.Pieces.{frontText, restText, linesBehind, indexDigits}
 use Rattle.lists.specs.Written.{listLength, writeAnswer, writeOut}
 use Rattle.lists.proofs.Lengths.{length-full}
@@ -131,24 +131,29 @@ module _ (j r n : ℕ) where
       lines-same (λ i. front ++ restText i (segmentLength n i)) (lineAt j r n) (countOf n)
       (λ i h. ap (λ (f : List ℕ). f ++ restText i (segmentLength n i)) e ∙ front-rest j r i (segmentLength n i))
 
-  -- lines of full segments, which differ in the length of their index alone
-  full-line : (i : ℕ) → i + 1 < countOf n → length (lineAt j r n i) ≡ length (frontText j r) + 7 + length (numText i)
-  unfolding numText digits
-  full-line i h =
-      let five : length (numText segmentBytes) ≡ 5 = refl in
-      omega (arith, ap (λ (l : ℕ). length (lineText j r i l)) (length-full n i h), line-length j r i segmentBytes, front-length j r, five)
+  -- a line is its front, its index and length, a tab and a newline; the lengths of full segments have five digits
+  one-line : (i : ℕ) → length (lineAt j r n i) ≡ length (frontText j r) + 2 + length (numText i) + length (numText (segmentLength n i))
+  one-line i = omega (arith, line-length j r i (segmentLength n i), front-length j r)
 
-  full-lines : (k : ℕ) → k < countOf n → length (linesOf (lineAt j r n) k) ≡ k * (length (frontText j r) + 7) + indexDigits k
+  five : (i : ℕ) → i + 1 < countOf n → length (numText (segmentLength n i)) ≡ 5
+  unfolding numText digits
+  five i h = ap (λ (l : ℕ). length (numText l)) (length-full n i h)
+
+  full-lines : (k : ℕ) → k < countOf n → length (linesOf (lineAt j r n) k) ≡ k * (length (frontText j r) + 2) + indexDigits k + k * 5
   unfolding linesOf indexDigits
   full-lines zero h = omega arith
   full-lines (suc k) h =
       let one : length (upto k ++ lineAt j r n k) ≡ length (upto k) + length (lineAt j r n k) = length-append (upto k) (lineAt j r n k) in
-      omega (arith, one, full-lines k (omega arith), full-line k (omega arith), suc-mul k (length (frontText j r) + 7))
+      omega (arith, one, full-lines k (omega arith), one-line k, five k (omega arith), suc-mul k (length (frontText j r) + 2))
 
-  pub whole-length : (k : ℕ) → k + 1 ≡ countOf n → length (listText j r n) ≡ k * (length (frontText j r) + 7) + indexDigits k + length (lineAt j r n k)
-  unfolding listText
+  pub whole-length : (k : ℕ) → k + 1 ≡ countOf n
+      → length (listText j r n) ≡ (k + 1) * (length (frontText j r) + 2) + indexDigits (k + 1) + (k * 5 + length (numText (segmentLength n k)))
+  unfolding listText indexDigits
   whole-length k e =
-      ap (λ (m : ℕ). length (linesOf (lineAt j r n) m)) (sym e) ∙ length-next (lineAt j r n) k ∙ ap (λ (m : ℕ). m + length (lineAt j r n k)) (full-lines k (omega arith))
+      let all : length (linesOf (lineAt j r n) (countOf n)) ≡ length (linesOf (lineAt j r n) k) + length (lineAt j r n k) =
+      ap (λ (m : ℕ). length (linesOf (lineAt j r n) m)) (sym e) ∙ length-next (lineAt j r n) k in
+      let digits-all : indexDigits (k + 1) ≡ indexDigits k + length (numText k) = ap indexDigits (add-one k) in
+      omega (arith, all, digits-all, full-lines k (omega arith), one-line k, add-mul k 1 (length (frontText j r) + 2))
 
   -- ---- Lengths and answers
 

@@ -4,8 +4,8 @@ use mathlib.Core.Path.{_≡_}
 use mathlib.Core.Bool.{Bool, true, _&&_}
 use mathlib.Core.List.{List, _∷_, _++_}
 use Prim.Native.Nat.{ℕ, _<_, _≤_, _^_}
-use lib.Dec.{eqb}
-use lib.ListN.{length, take, drop}
+use lib.Dec.{ltb, eqb}
+use lib.ListN.{length, getD, take, drop}
 use Rattle.cutting.specs.Cutting.{segmentOk}
 use Rattle.decimal.specs.Decimal.{numText}
 use Rattle.lists.specs.Lists.{lineText}
@@ -16,6 +16,10 @@ use Rattle.lists.specs.declared.line.Line.{Line}
 use Rattle.lists.specs.declared.line.Line.the-variants.{Fields, NoLine}
 use Rattle.lists.specs.declared.line.Segment.{Segment}
 use Rattle.lists.specs.declared.line.Segment.the-variants.{Length, NoSegment}
+
+-- whether the byte stop stands at a place; at the text's end none does
+unfoldable pub endedBy : List ℕ → ℕ → ℕ → Bool
+endedBy t at stop = ltb at (length t) && eqb (getD t at 0) stop
 
 -- the number at a place that the byte stop ends, and the place behind that byte
 abbrev pub PartIs : List ℕ → ℕ → ℕ → Part → Type 0

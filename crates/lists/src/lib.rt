@@ -14,6 +14,7 @@ use answers::need;
 use cutting::begin;
 use cutting::count;
 use cutting::end;
+use decimal::number_length;
 use rules::LONGEST_JOB;
 use rules::SEGMENT;
 
@@ -47,7 +48,10 @@ fn segment_length(body: u64, i: u64) -> u64
     end(body, i) - begin(body, i)
 }
 
-// How long the list of a body of so many bytes is; 0 where that is more than a job in segments can have.
+// The digits of 65536, the length of a full segment.
+const FULL_DIGITS: usize = 5;
+
+// How long the list of a body of so many bytes is, the numbers apart from the fronts, tabs and newlines; 0 where that is more than a job in segments can have.
 pub fn list_length(job: u64, revision: u64, body: u64) -> usize
     ensures { λ r. ⌜ r ≡ listLength job revision body ⌝ }
 {
@@ -56,8 +60,9 @@ pub fn list_length(job: u64, revision: u64, body: u64) -> usize
     }
     let lines = count(body);
     let full = lines - 1;
-    let last = put::length_of(job, revision, full, segment_length(body, full));
-    full as usize * put::full_length(job, revision) + index_digits(full) + last
+    let lengths = full as usize * FULL_DIGITS + number_length(segment_length(body, full));
+    let plain = put::front_length(job, revision) + 2;
+    lines as usize * plain + index_digits(lines) + lengths
 }
 
 // How many digits the indices below n have together: one each, those from 10 on one more, and so on.

@@ -5,7 +5,7 @@ ghost use lib.ListN.{length, take, drop};
 ghost use Rattle.norx.specs.Lent.{was};
 ghost use Rattle.norx.specs.Norx.{same as sameOf};
 ghost use Rattle.fields.specs.Fields.{newline};
-ghost use Rattle.lists.specs.Places.{PartIs, LineIs, isFirst, RestIs, SegmentIs};
+ghost use Rattle.lists.specs.Places.{endedBy, PartIs, LineIs, isFirst, RestIs, SegmentIs};
 use cutting::segment_ok;
 use decimal::Found;
 use decimal::number_at;
@@ -36,6 +36,17 @@ pub enum Segment {
     NoSegment,
 }
 
+// Whether the byte stop stands at a place; at the text's end none does.
+fn ended_by(text: &[u8], at: usize, stop: u8) -> bool
+    ensures { λ r. ⌜ r ≡ endedBy (was text) at stop ⌝ }
+{
+    let mut ended = false;
+    if at < text.len() {
+        ended = text[at] == stop;
+    }
+    ended
+}
+
 // The number at a place, where the byte stop ends it.
 fn part_at(text: &[u8], at: usize, stop: u8) -> Part
     requires { ⌜ stop < 48 ⌝ }
@@ -44,10 +55,7 @@ fn part_at(text: &[u8], at: usize, stop: u8) -> Part
     let Found::Here { value, end } = number_at(text, at) else {
         return Part::NoPart;
     };
-    if text.len() <= end {
-        return Part::NoPart;
-    }
-    if text[end] != stop {
+    if !ended_by(text, end, stop) {
         return Part::NoPart;
     }
     Part::Number {
@@ -145,19 +153,31 @@ fn rest_at(text: &[u8], at: usize, i: u64) -> Segment
     Segment::Length { body, next }
 }
 
-// Whether the n bytes at a place are the text's first ones.
+// Whether the n bytes at two places are the same.
+fn alike(text: &[u8], a: usize, b: usize, n: usize) -> bool
+    requires { ⌜ (a + n ≤ length (now text)) × (b + n ≤ length (now text)) ⌝ }
+    ensures { λ r. ⌜ r ≡ sameOf (take n (drop a (was text))) (take n (drop b (was text))) ⌝ }
+{
+    same(&text[a..a + n], &text[b..b + n])
+}
+
+// Whether the n bytes at a place are the text's first ones, eight at a time; of the last eight some are then compared twice.
 fn begins_again(text: &[u8], at: usize, n: usize) -> bool
     requires { ⌜ at + n ≤ length (now text) ⌝ }
     ensures { λ r. ⌜ r ≡ sameOf (take n (drop at (was text))) (take n (was text)) ⌝ }
 {
+    if n < 8 {
+        return alike(text, at, 0, n);
+    }
+    let last = n - 8;
     let mut i = 0;
-    while i < n {
-        if text[at + i] != text[i] {
+    while i < last {
+        if !alike(text, at + i, i, 8) {
             return false;
         }
-        i += 1;
+        i += 8;
     }
-    true
+    alike(text, at + last, last, 8)
 }
 
 // The line of segment i at a place, where it begins as the text does: with the same bytes up to the index.

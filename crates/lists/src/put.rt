@@ -7,7 +7,6 @@ ghost use Rattle.norx.specs.Lent.{was};
 ghost use Rattle.decimal.specs.Decimal.{numText};
 ghost use Rattle.decimal.specs.Laid.{laid};
 ghost use Rattle.fields.specs.Fields.{newline};
-ghost use Rattle.lists.specs.Lists.{lineText};
 ghost use Rattle.lists.specs.Pieces.{frontText, restText};
 use decimal::number_length;
 use decimal::put_number;
@@ -18,20 +17,6 @@ pub(crate) fn front_length(job: u64, revision: u64) -> usize
     ensures { λ r. ⌜ (r ≡ length (frontText job revision)) × (r ≤ 42) ⌝ }
 {
     number_length(job) + number_length(revision) + 2
-}
-
-// How long the line of a full segment is without its index: the front, a tab, the five digits of 65536 and a newline.
-pub(crate) fn full_length(job: u64, revision: u64) -> usize
-    ensures { λ r. ⌜ (r ≡ length (frontText job revision) + 7) × (r ≤ 49) ⌝ }
-{
-    front_length(job, revision) + 7
-}
-
-// How long a line is: its numbers, three tabs and a newline.
-pub(crate) fn length_of(job: u64, revision: u64, index: u64, body: u64) -> usize
-    ensures { λ r. ⌜ (r ≡ length (lineText job revision index body)) × (r ≤ 84) ⌝ }
-{
-    number_length(job) + number_length(revision) + number_length(index) + number_length(body) + 4
 }
 
 // Writes a number and the byte that ends it at a place, and gives the place behind them.

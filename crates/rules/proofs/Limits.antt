@@ -1,7 +1,7 @@
 -- The checks of a call are answered 0 exactly where the limits are kept.
 -- Assumes nothing.
 use mathlib.Core.Path.{_≡_, refl, sym, ap, _∙_}
-use mathlib.Core.Bool.{Bool, true, false, _&&_, _||_}
+use mathlib.Core.Bool.{true, _&&_}
 use mathlib.Core.Logic.{_⊎_, inl, inr, _↔_, _≢_}
 use Prim.Native.Nat.{ℕ, _+_, _-_, _<_}
 use native.Mathlib.Omega.{arith}
@@ -11,7 +11,7 @@ use Rattle.norx.specs.Norx.{Width, word32, word64, rowBytes}
 use Rattle.answers.specs.declared.Answer.{Answer}
 use Rattle.answers.specs.declared.Answer.the-variants.{Done, KeyLength, RoundsNumber, TagLength, OverLimit, OutputLength}
 use Rattle.answers.specs.Answers.{numberOf, doneOf}
-use Rattle.answers.proofs.Chain.{done-zero, zero-done, passed, passes, link-not, both, and-true}
+use Rattle.answers.proofs.Chain.{done-zero, zero-done, passed, passes, link-not, both, and-true, one-of}
 use Rattle.rules.specs.Rules.{longestHeader, longestBody, longestTrailer, within, roundsOk, lengthsOk, tagBytes}
 use Rattle.rules.specs.Calls.{sealChecks, openChecks}
 use Rattle.rules.specs.Limits.{widthsLength, StartLimits, PartLimits, SealLimits, OpenLimits}
@@ -25,10 +25,6 @@ tag-long word32 = refl
 tag-long word64 = refl
 
 -- ---- one test after the other
-
-one-of : (a b : Bool) → (a || b) ≡ true → (a ≡ true) ⊎ (b ≡ true)
-one-of true b e = inl refl
-one-of false b e = inr e
 
 pub rounds-from : (l : ℕ) → roundsOk l ≡ true → (l ≡ 4) ⊎ (l ≡ 6)
 rounds-from l e = go (one-of (eqb l 4) (eqb l 6) e)

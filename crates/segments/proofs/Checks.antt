@@ -1,8 +1,8 @@
 -- What the numbers of a segment decide, as the code asks it, is what the definitions say; and what that leaves in the output.
 -- Assumes nothing.
 use mathlib.Core.Path.{_≡_, refl, sym, ap, ap₂, _∙_}
-use mathlib.Core.Bool.{Bool, true, false, not, _&&_, _||_, cond}
-use mathlib.Core.List.{List, [], _++_}
+use mathlib.Core.Bool.{Bool, true, false, not, _&&_, cond}
+use mathlib.Core.List.{List, []}
 use Prim.Native.Nat.{ℕ, _+_, _-_, _<_}
 use native.Mathlib.Omega.{arith}
 use borrow.Author.Tests.{ltb-true}
@@ -24,6 +24,7 @@ use Rattle.places.specs.Terms.{frontOf}
 use Rattle.places.proofs.Editions.{front-long}
 use Rattle.cutting.specs.declared.Waiting.{Waiting}
 use Rattle.cutting.specs.Cutting.{segmentOk, sealedOk, segmentNumber, takeLinks}
+use Rattle.cutting.proofs.Cuts.{last-rule}
 use Rattle.segments.specs.Segments.{segmentNonce, segmentHeader, segmentAnswer, segmentOut, takeAnswer, takeOut}
 
 -- ---- the lengths
@@ -39,7 +40,7 @@ header-long T note = length-append (frontOf (T .edition)) note ∙ ap (λ (k : �
 -- a segment that may be sealed has an index below the most
 pub index-below : (i : ℕ) (last : Bool) (n : ℕ) → segmentOk i last n ≡ true → i < mostSegments
 unfolding segmentOk
-index-below i true n e = ltb-true i mostSegments (both (leb n segmentBytes && (ltb 0 n || eqb i 0)) (ltb i mostSegments) e .1)
+index-below i true n e = last-rule i n e .1 .1
 index-below i false n e =
     let below : i < mostSegments - 1 = ltb-true i (mostSegments - 1) (both (eqb n segmentBytes) (ltb i (mostSegments - 1)) e .1) in
     omega arith

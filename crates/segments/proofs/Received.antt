@@ -1,8 +1,8 @@
 -- The promises of any list of offers, over the width.
 -- Assumes nothing.
 use mathlib.Core.Path.{_≡_, refl, sym, ap, ap₂, _∙_}
-use mathlib.Core.Bool.{Bool, true, false, _||_, cond}
-use mathlib.Core.Logic.{_⊎_, inl, inr, ⊎-elim, _≢_}
+use mathlib.Core.Bool.{Bool, true, false, _||_}
+use mathlib.Core.Logic.{_⊎_, inl, inr, ⊎-elim}
 use mathlib.Core.List.{List, [], _∷_, _++_}
 use Prim.Native.Nat.{ℕ, _+_}
 use native.Mathlib.Omega.{arith}
@@ -17,7 +17,7 @@ use Rattle.answers.proofs.Tests.{either, cond-true, cond-false}
 use Rattle.places.specs.declared.terms.Terms.{Terms}
 use Rattle.cutting.specs.declared.Waiting.{Waiting}
 use Rattle.cutting.specs.Cutting.{waitingFirst}
-use Rattle.segments.specs.Receivers.{Receiving, startsAnswer, startsWith, noReceiving, takingAnswer, takingOut}
+use Rattle.segments.specs.Receivers.{Receiving, startsAnswer, startsWith, noReceiving}
 use Rattle.segments.specs.Promises.{TakesSegment}
 use Rattle.segments.specs.Offers.{Offer, Taken, offerNumber, handed, afterOffer, isTaken, afterOffers, takenIn, handedOut, messages, flagged, InOrder, Receives}
 use Rattle.segments.proofs.Receive.{start-fresh, start-none}

@@ -1,48 +1,30 @@
 -- The checks of a segment pass exactly where rule and limits are kept, and which number each gives.
 -- Assumes nothing.
 use mathlib.Core.Path.{_≡_, refl, sym, ap, _∙_}
-use mathlib.Core.Bool.{Bool, true, false, not, _&&_, _||_}
-use mathlib.Core.Logic.{_⊎_, inl, inr, _↔_, _≢_}
-use mathlib.Core.List.{List, []}
+use mathlib.Core.Bool.{Bool, true, false}
+use mathlib.Core.List.{List}
 use Prim.Native.Nat.{ℕ, _+_, _-_, _≤_, _<_}
 use native.Mathlib.Omega.{arith}
 use borrow.Author.Tests.{le-leb, leb-true, lt-ltb, ltb-true, eq-eqb, eqb-true}
 use lib.Dec.{leb, ltb, eqb}
 use lib.ListN.{length}
-use Rattle.norx.specs.Norx.{Width, word32, word64, rowBytes}
-use Rattle.answers.proofs.Tests.{either}
+use Rattle.norx.specs.Norx.{Width, word32, word64}
 use Rattle.answers.proofs.Chain.{both, and-true}
 use Rattle.rules.specs.Rules.{segmentBytes, mostSegments, tagBytes}
 use Rattle.rules.specs.Limits.{widthsLength, StartLimits, PartLimits, SealLimits, OpenLimits}
 use Rattle.rules.proofs.Limits.{tag-long}
 use Rattle.places.specs.declared.terms.Terms.{Terms}
 use Rattle.cutting.specs.Cutting.{segmentOk, sealedOk}
+use Rattle.cutting.proofs.Cuts.{last-rule, last-ok}
 use Rattle.segments.specs.Rule.{Rule, jobNonceLength, JobLimits, SealedRule}
 use Rattle.segments.specs.Segments.{segmentNonce, segmentHeader}
 use Rattle.segments.proofs.Checks.{nonce-long, header-long}
 
 -- ---- the rule
 
-one-of : (a b : Bool) → (a || b) ≡ true → (a ≡ true) ⊎ (b ≡ true)
-one-of true b e = inl refl
-one-of false b e = inr e
-
-or-true : (a b : Bool) → (a ≡ true) ⊎ (b ≡ true) → (a || b) ≡ true
-or-true true b e = refl
-or-true false b (inl e) = let no : _≡_ {A = ℕ} 0 1 = cc in absurd (omega arith)
-or-true false b (inr e) = e
-
 pub rule-from : (i : ℕ) (last : Bool) (n : ℕ) → segmentOk i last n ≡ true → Rule i last n
 unfolding segmentOk
-rule-from i true n e =
-    let a = both (leb n segmentBytes && (ltb 0 n || eqb i 0)) (ltb i mostSegments) e in
-    let b = both (leb n segmentBytes) (ltb 0 n || eqb i 0) (a .0) in
-    let below : i < mostSegments = ltb-true i mostSegments (a .1) in
-    (leb-true n segmentBytes (b .0), (some (one-of (ltb 0 n) (eqb i 0) (b .1)), omega arith))
-  where
-    some : (ltb 0 n ≡ true) ⊎ (eqb i 0 ≡ true) → (1 ≤ n) ⊎ (i ≡ 0)
-    some (inl h) = inl (ltb-true 0 n h)
-    some (inr h) = inr (eqb-true i 0 h)
+rule-from i true n e = let r = last-rule i n e in (r .0, (r .1 .0, omega (arith, r .1 .1)))
 rule-from i false n e =
     let a = both (eqb n segmentBytes) (ltb i (mostSegments - 1)) e in
     let below : i < mostSegments - 1 = ltb-true i (mostSegments - 1) (a .1) in
@@ -50,14 +32,7 @@ rule-from i false n e =
 
 pub rule-to : (i : ℕ) (last : Bool) (n : ℕ) → Rule i last n → segmentOk i last n ≡ true
 unfolding segmentOk
-rule-to i true n h =
-    and-true (leb n segmentBytes && (ltb 0 n || eqb i 0)) (ltb i mostSegments)
-    (and-true (leb n segmentBytes) (ltb 0 n || eqb i 0) (le-leb n segmentBytes (h .0)) (or-true (ltb 0 n) (eqb i 0) (some (h .1 .0))))
-    (lt-ltb i mostSegments (omega (arith, h .1 .1)))
-  where
-    some : (1 ≤ n) ⊎ (i ≡ 0) → (ltb 0 n ≡ true) ⊎ (eqb i 0 ≡ true)
-    some (inl g) = inl (lt-ltb 0 n g)
-    some (inr g) = inr (eq-eqb i 0 g)
+rule-to i true n h = last-ok i n (h .0) (h .1 .0) (omega (arith, h .1 .1))
 rule-to i false n h =
     and-true (eqb n segmentBytes) (ltb i (mostSegments - 1)) (eq-eqb n segmentBytes (h .0)) (lt-ltb i (mostSegments - 1) (omega (arith, h .1)))
 

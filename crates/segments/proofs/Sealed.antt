@@ -1,6 +1,6 @@
 -- The promises of sealing one segment, over the width.
 -- Assumes nothing.
-use mathlib.Core.Path.{_≡_, refl, sym, ap, _∙_}
+use mathlib.Core.Path.{_≡_, sym, ap, _∙_}
 use mathlib.Core.Bool.{Bool, true, false}
 use mathlib.Core.Logic.{_⊎_, ⊎-elim, _≢_}
 use mathlib.Core.List.{List, []}
@@ -11,17 +11,17 @@ use lib.ListN.{length}
 use Rattle.norx.specs.Norx.{Width, tagBits, sealed}
 use Rattle.answers.specs.declared.Answer.{Answer}
 use Rattle.answers.specs.declared.Answer.the-variants.{SegmentLength}
-use Rattle.answers.specs.Answers.{numberOf, doneOf, needOf}
+use Rattle.answers.specs.Answers.{numberOf, needOf}
 use Rattle.answers.proofs.Tests.{either, cond-true, cond-false}
 use Rattle.answers.proofs.Chain.{done-zero, zero-done}
 use Rattle.rules.specs.Limits.{widthsLength}
-use Rattle.rules.specs.OneCall.{sealAnswer, sealOut}
+use Rattle.rules.specs.OneCall.{sealAnswer}
 use Rattle.rules.proofs.Limits.{seal-limits}
 use Rattle.rules.proofs.OneCall.{seal-done}
 use Rattle.places.specs.declared.terms.Terms.{Terms}
 use Rattle.cutting.specs.Cutting.{segmentOk}
 use Rattle.sealing.proofs.Demand.{sealing-not}
-use Rattle.segments.specs.Rule.{Rule, JobLimits}
+use Rattle.segments.specs.Rule.{Rule}
 use Rattle.segments.specs.Segments.{segmentNonce, segmentHeader, segmentAnswer, segmentOut}
 use Rattle.segments.specs.Promises.{InLimits, SealsSegment}
 use Rattle.segments.proofs.Checks.{segment-passed, segment-sealed, segment-kept}

@@ -1,13 +1,13 @@
 -- The promises of taking one segment, over the width.
 -- Assumes nothing.
 use mathlib.Core.Path.{_≡_, refl, sym, ap, _∙_}
-use mathlib.Core.Bool.{Bool, true, false, not, _&&_, cond}
-use mathlib.Core.Logic.{_⊎_, inl, inr, ⊎-elim, _↔_, _≢_}
+use mathlib.Core.Bool.{Bool, true, false}
+use mathlib.Core.Logic.{_⊎_, inl, ⊎-elim, _≢_}
 use mathlib.Core.List.{List, []}
 use mathlib.Core.Option.{Option, none, some}
 use Prim.Native.Nat.{ℕ, _+_, _-_, _<_}
 use native.Mathlib.Omega.{arith}
-use borrow.Author.Tests.{le-leb, leb-true, eq-eqb, ne-eqb}
+use borrow.Author.Tests.{ne-eqb}
 use lib.Dec.{leb, eqb}
 use lib.ListN.{length, replicate}
 use Rattle.norx.specs.Norx.{Width, rowBytes, tagBits, opened}
@@ -28,9 +28,9 @@ use Rattle.cutting.specs.Cutting.{segmentOk, sealedOk, takeLinks}
 use Rattle.sealing.specs.Promises.{LeavesBytes, MayOpen, Opens}
 use Rattle.sealing.proofs.Demand.{opening-not, open-ensures}
 use Rattle.segments.specs.Rule.{Rule, JobLimits, SealedRule}
-use Rattle.segments.specs.Segments.{segmentNonce, segmentHeader, segmentAnswer, segmentOut, takeAnswer, takeOut}
-use Rattle.segments.specs.Receivers.{Receiving, takingAnswer, takingOut, afterTaking}
-use Rattle.segments.specs.Promises.{GivenFor, takingNumber, TakesSegment}
+use Rattle.segments.specs.Segments.{segmentNonce, segmentHeader, segmentAnswer, takeAnswer, takeOut}
+use Rattle.segments.specs.Receivers.{Receiving, takingAnswer, takingOut}
+use Rattle.segments.specs.Promises.{GivenFor, TakesSegment}
 use Rattle.segments.proofs.Checks.{segment-sealed}
 use Rattle.segments.proofs.Receive.{taking-next, taking-same}
 use Rattle.segments.proofs.Rules.{rule-below, sealed-from, sealed-to, one-opening, job-of-opening}

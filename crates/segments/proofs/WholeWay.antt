@@ -1,12 +1,12 @@
 -- The whole way, over the width: a body cut, each segment sealed and taken in order, comes back whole.
 -- Assumes nothing.
 use mathlib.Core.Path.{_≡_, refl, sym, ap, ap₂, _∙_}
-use mathlib.Core.Bool.{Bool, true, false, cond}
+use mathlib.Core.Bool.{Bool, true, false}
 use mathlib.Core.Logic.{_⊎_, inl, inr, ⊎-elim}
 use mathlib.Core.List.{List, [], _∷_, _++_, append-nil}
 use Prim.Native.Nat.{ℕ, _+_, _-_, _*_, _≤_, _<_}
 use native.Mathlib.Omega.{arith}
-use native.Mathlib.Nat.{le-of-eq, eq-zero-or-pos}
+use native.Mathlib.Nat.{eq-zero-or-pos}
 use borrow.Author.Tests.{eq-eqb, eqb-true, eqb-false, ltb-true, ltb-false}
 use lib.Dec.{eqb, ltb, lit≤}
 use lib.ListN.{length, take, drop, length-drop, take-append-drop}
@@ -17,7 +17,6 @@ use Rattle.norx.proofs.Bytes.{bytes-take, bytes-drop}
 use Rattle.norx.proofs.Opening.{length-sealed}
 use Rattle.answers.specs.Answers.{numberOf}
 use Rattle.answers.proofs.Tests.{either, cond-true}
-use Rattle.answers.proofs.Chain.{zero-done}
 use Rattle.rules.specs.Rules.{segmentBytes}
 use Rattle.rules.specs.Limits.{widthsLength}
 use Rattle.rules.proofs.Limits.{tag-long}
@@ -27,7 +26,7 @@ use Rattle.cutting.specs.Cutting.{countOf, beginOf, endOf}
 use Rattle.cutting.proofs.Cuts.{begin-within, end-within, end-last, end-most}
 use Rattle.segments.specs.Rule.{Rule, JobLimits}
 use Rattle.segments.specs.Segments.{segmentNonce, segmentHeader, segmentAnswer, segmentOut}
-use Rattle.segments.specs.Receivers.{Receiving, startsWith}
+use Rattle.segments.specs.Receivers.{Receiving}
 use Rattle.segments.specs.Promises.{GivenBySealing}
 use Rattle.segments.specs.Offers.{Offer, offerNumber, handed, isTaken, afterOffers, handedOut, messages, segmentAt, Sent, AllSent, ComesBack}
 use Rattle.segments.proofs.Sealed.{seals-segment}

@@ -11,11 +11,10 @@ use Rattle.norx.specs.Texts.{Bytes}
 use Rattle.answers.specs.Answers.{numberOf}
 use Rattle.rules.specs.Limits.{widthsLength}
 use Rattle.places.specs.declared.terms.Terms.{Terms}
-use Rattle.cutting.specs.declared.Waiting.{Waiting}
 use Rattle.cutting.specs.Cutting.{waitingFirst}
 use Rattle.sealing.specs.Promises.{LeavesBytes}
 use Rattle.segments.specs.Rule.{Rule, JobLimits, SealedRule}
-use Rattle.segments.specs.Segments.{segmentNonce, segmentHeader, segmentAnswer, segmentOut, takeAnswer, takeOut}
+use Rattle.segments.specs.Segments.{segmentNonce, segmentHeader, segmentAnswer, segmentOut}
 use Rattle.segments.specs.Receivers.{Receiving, noReceiving, startsAnswer, startsWith, takingAnswer, takingOut, afterTaking}
 
 module _ (w : Width) (key nonce : List ℕ) (T : Terms) (note : List ℕ) (i : ℕ) (last : Bool) where

@@ -1,4 +1,4 @@
--- `lists::list_length`: the lines of full segments, and the last one.
+-- `lists::list_length`: all indices, the lengths of full segments and that of the last one, and what else each line has.
 -- Assumes nothing.
 use mathlib.Core.Path.{_≡_, sym, ap, ap₂, _∙_}
 use Prim.Native.Nat.{ℕ, _+_, _-_, _*_, _≤_}
@@ -8,7 +8,8 @@ use borrow.Author.Needs.{needs}
 use lib.ListN.{length}
 use Rattle.rules.specs.Rules.{mostSegments}
 use Rattle.cutting.specs.Cutting.{countOf}
-use Rattle.lists.specs.Lists.{lineText}
+use Rattle.decimal.specs.Decimal.{numText}
+use Rattle.lists.specs.Pieces.{indexDigits}
 use Rattle.lists.proofs.Lengths.{count-some, count-most}
 use Rattle.lists.proofs.Writing.{no-length, the-length, whole-length}
 use Rattle.lists.proofs.list_length.Statement.{statement}
@@ -17,39 +18,37 @@ use Rattle.lists.proofs.list_length.Tie as tie
 returns : tie.Need-returns
 returns c = let x = c .before .args in no-length (x .job) (x .revision) (x .body) (c .if1 .taken)
 
-sub-full : tie.Need-sub-full
-sub-full c = omega (arith, c .count .ensures, count-some (c .before .before .args .body))
+some : (c : tie.After-count) → 1 ≤ c .count .result
+some c = omega (arith, c .count .ensures, count-some (c .before .before .args .body))
 
-few : (c : tie.After-full-length) → c .before .before .before .count .result - 1 ≤ mostSegments
-few c = omega (arith, c .before .before .before .count .ensures, count-most (c .before .before .before .before .before .args .body) (c .before .before .before .before .if1 .left))
+few : (c : tie.After-count) → c .count .result ≤ mostSegments
+few c = omega (arith, c .count .ensures, count-most (c .before .before .args .body) (c .before .if1 .left))
 
-room : (c : tie.After-full-length) → (c .before .before .before .count .result - 1) * c .full-length .result ≤ mostSegments * 49
-room c = mul-le-mul (few c) (c .full-length .ensures .1)
+room : (c : tie.After-front-length) → c .before .before .before .count .result * (c .front-length .result + 2) ≤ mostSegments * 44
+room c = let short : c .front-length .result + 2 ≤ 44 = omega (arith, c .front-length .ensures .1) in mul-le-mul (few (c .before .before .before)) short
 
-mul-result : tie.Need-mul-result
-mul-result c = omega (arith, room c)
-
-index-digits-requires : tie.Need-index-digits-requires
-index-digits-requires c κs = few c
-
-add-result : tie.Need-add-result
-add-result c = omega (arith, room (c .before), c .index-digits .ensures .1, few (c .before))
-
-add-result-2 : tie.Need-add-result-2
-add-result-2 c = omega (arith, room (c .before), c .index-digits .ensures .1, few (c .before), c .before .before .length-of .ensures .1)
+-- what the lines have, and then what their lengths have
+lines-room : (c : tie.After-index-digits)
+    → c .before .before .before .before .count .result * (c .before .front-length .result + 2) + c .index-digits .result ≤ mostSegments * 64
+lines-room c = omega (arith, room (c .before), c .index-digits .ensures .1, few (c .before .before .before .before))
 
 returns-2 : tie.Need-returns-2
 returns-2 c =
-    let x = c .before .before .before .before .before .before .args in
-    let full = c .before .before .before .before .count .result - 1 in
-    let all : c .before .before .before .before .count .result - 1 + 1 ≡ countOf (x .body) = omega (arith, c .before .before .before .before .count .ensures, count-some (x .body)) in
-    let last = c .before .before .length-of .ensures .0 ∙ ap (λ (l : ℕ). length (lineText (x .job) (x .revision) full l)) (c .before .before .before .segment-length .ensures) in
-    let lines = ap₂ (λ (w d : ℕ). full * w + d) (c .before .full-length .ensures .0) (c .index-digits .ensures .0) in
-    ap₂ (λ (a b : ℕ). a + b) lines last ∙ sym (whole-length (x .job) (x .revision) (x .body) full all) ∙ sym (the-length (x .job) (x .revision) (x .body) (c .before .before .before .before .before .if1 .left))
+    let counted = c .before .before .before .before in
+    let x = counted .before .before .args in
+    let full = counted .count .result - 1 in
+    let lines : counted .count .result ≡ full + 1 = omega (arith, some counted) in
+    let all : full + 1 ≡ countOf (x .body) = sym lines ∙ counted .count .ensures in
+    let last = c .before .before .number-length .ensures .0 ∙ ap (λ (l : ℕ). length (numText l)) (c .before .before .before .segment-length .ensures) in
+    let fronts = ap₂ (λ (k f : ℕ). k * (f + 2)) lines (c .before .front-length .ensures .0) in
+    let indices = c .index-digits .ensures .0 ∙ ap indexDigits lines in
+    ap₂ (λ (a b : ℕ). a + b) (ap₂ (λ (a b : ℕ). a + b) fronts indices) (ap (λ (l : ℕ). full * 5 + l) last)
+    ∙ sym (whole-length (x .job) (x .revision) (x .body) full all) ∙ sym (the-length (x .job) (x .revision) (x .body) (counted .before .if1 .left))
 
 pub list-length-spec : {M : Type 1} → statement M
 list-length-spec =
     tie.close
     (tie.spec
-    returns (λ c κs. search needs) sub-full (λ c κs. search needs) (λ c κs. search needs) (λ c κs. search needs) mul-result index-digits-requires
-    add-result add-result-2 returns-2)
+    returns (λ c κs. search needs) (λ c. omega (arith, some c)) (λ c. omega (arith, few c)) (λ c κs. search needs) (λ c κs. search needs)
+    (λ c. omega (arith, few (c .before .before), c .number-length .ensures .1)) (λ c κs. search needs) (λ c. search needs) (λ c. omega (arith, room c)) (λ c κs. few (c .before .before .before))
+    (λ c. omega (arith, lines-room c)) (λ c. omega (arith, lines-room c, few (c .before .before .before .before), c .before .before .number-length .ensures .1)) returns-2)

@@ -3,7 +3,8 @@
 use mathlib.Core.Path.{subst}
 use borrow.Author.Needs.{needs}
 use Rattle.decimal.specs.Decimal.{FoundIs}
-use Rattle.lists.proofs.Parts.{part-none, part-cut, part-other, part-is}
+use Rattle.decimal.proofs.Runs.{tested, tested-not}
+use Rattle.lists.proofs.Parts.{ended-is, part-none, part-other, part-is}
 use Rattle.lists.proofs.line.part_at.Statement.{statement}
 use Rattle.lists.proofs.line.part_at.Tie as tie
 
@@ -14,21 +15,22 @@ returns c =
 
 returns-2 : tie.Need-returns-2
 returns-2 c =
-    let x = c .before .before .before .before .before .before .args in
-    part-cut (x .text .now) (x .at) (x .stop) (c .before .before .before .before .before .before .pre) _ _ (subst (FoundIs (x .text .now) (x .at)) (c .before .before .value .given .1) (c .before .before .before .before .number-at .ensures)) (c .if1 .taken)
+    let x = c .before .before .before .before .before .before .before .args in
+    part-other (x .text .now) (x .at) (x .stop) (c .before .before .before .before .before .before .before .pre) _ _ (subst (FoundIs (x .text .now) (x .at)) (c .before .before .before .value .given .1) (c .before .before .before .before .before .number-at .ensures)) (tested-not (c .before .ended-by .ensures) (c .if1 .taken))
+
+add-t9 : tie.Need-add-t9
+add-t9 c =
+    let x = c .before .before .before .before .before .before .before .args in
+    let there = ended-is (x .text .now) _ (x .stop) (tested (c .before .ended-by .ensures) (c .if1 .left)) .0 in
+    search needs
 
 returns-3 : tie.Need-returns-3
 returns-3 c =
-    let x = c .before .before .before .before .before .before .before .before .args in
-    part-other (x .text .now) (x .at) (x .stop) (c .before .before .before .before .before .before .before .before .pre) _ _ (subst (FoundIs (x .text .now) (x .at)) (c .before .before .before .before .value .given .1) (c .before .before .before .before .before .before .number-at .ensures)) (c .if2 .taken)
-
-returns-4 : tie.Need-returns-4
-returns-4 c =
-    let x = c .before .before .before .before .before .before .before .before .args in
-    part-is (x .text .now) (x .at) (x .stop) (c .before .before .before .before .before .before .before .before .pre) _ _ (subst (FoundIs (x .text .now) (x .at)) (c .before .before .before .before .value .given .1) (c .before .before .before .before .before .before .number-at .ensures)) (c .before .before .if1 .left) (c .if2 .left)
+    let x = c .before .before .before .before .before .before .before .args in
+    part-is (x .text .now) (x .at) (x .stop) (c .before .before .before .before .before .before .before .pre) _ _ (subst (FoundIs (x .text .now) (x .at)) (c .before .before .before .value .given .1) (c .before .before .before .before .before .number-at .ensures)) (tested (c .before .ended-by .ensures) (c .if1 .left))
 
 pub part-at-spec : {M : Type 1} → statement M
 part-at-spec =
     tie.close
     (tie.spec
-    (λ c κs. search needs) (λ c. search needs) (λ c. search needs) returns returns-2 (λ c. search needs) returns-3 (λ c. search needs) returns-4)
+    (λ c κs. search needs) (λ c. search needs) (λ c. search needs) returns (λ c κs. search needs) returns-2 add-t9 returns-3)

@@ -1,6 +1,6 @@
 -- `segments::receiver64::Receiver::take`: the segment opened, and what it then waits for.
 -- Assumes nothing.
-use mathlib.Core.Path.{_≡_, sym, ap, ap₂, _∙_}
+use mathlib.Core.Path.{sym, ap, ap₂, _∙_}
 use borrow.Author.Needs.{needs}
 use Rattle.norx.specs.Norx.{word64}
 use Rattle.answers.specs.declared.Answer.{Answer}
