@@ -51,7 +51,7 @@ fn segment_length(body: u64, i: u64) -> u64
 // The digits of 65536, the length of a full segment.
 const FULL_DIGITS: usize = 5;
 
-// How long the list of a body of so many bytes is, the numbers apart from the fronts, tabs and newlines; 0 where that is more than a job in segments can have.
+// How long the list of a body of so many bytes is; 0 where that is more than a job in segments can have.
 pub fn list_length(job: u64, revision: u64, body: u64) -> usize
     ensures { λ r. ⌜ r ≡ listLength job revision body ⌝ }
 {
@@ -61,8 +61,7 @@ pub fn list_length(job: u64, revision: u64, body: u64) -> usize
     let lines = count(body);
     let full = lines - 1;
     let lengths = full as usize * FULL_DIGITS + number_length(segment_length(body, full));
-    let plain = put::front_length(job, revision) + 2;
-    lines as usize * plain + index_digits(lines) + lengths
+    lines as usize * put::plain_length(job, revision) + index_digits(lines) + lengths
 }
 
 // How many digits the indices below n have together: one each, those from 10 on one more, and so on.

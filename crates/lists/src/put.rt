@@ -19,6 +19,13 @@ pub(crate) fn front_length(job: u64, revision: u64) -> usize
     number_length(job) + number_length(revision) + 2
 }
 
+// How long a line is without its index and its body length: the front, a tab and a newline.
+pub(crate) fn plain_length(job: u64, revision: u64) -> usize
+    ensures { λ r. ⌜ (r ≡ length (frontText job revision) + 2) × (r ≤ 44) ⌝ }
+{
+    front_length(job, revision) + 2
+}
+
 // Writes a number and the byte that ends it at a place, and gives the place behind them.
 fn part(n: u64, stop: u8, out: &mut [u8], at: usize) -> usize
     requires { ⌜ at + length (numText n) < length (now out) ⌝ }
