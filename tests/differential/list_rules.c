@@ -140,7 +140,8 @@ static void some_breaks(int number)
     for (size_t breaks = prng_below(&prng, 4); breaks > 0; breaks--) {
         size_t line = prng_below(&prng, lines.count), field = prng_below(&prng, FIELDS);
 
-        lines.numbers[line][field] = prng_below(&prng, 2) == 0 ? prng_below(&prng, SEGMENT_BYTES + 2) : any_number(&prng);
+        lines.numbers[line][field] =
+            prng_below(&prng, 2) == 0 ? prng_below(&prng, SEGMENT_BYTES + 2) : any_number(&prng);
     }
     compare_lines(&lines);
 }
