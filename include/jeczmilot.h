@@ -2,7 +2,8 @@
  *
  * Seven calls: two for a whole job, two for a segment of one, and three for the list of its segments. Each ends with an
  * answer, for any numbers and bytes given to it; nothing is asked beforehand but what "Buffers" below says. Look at the
- * answer before anything else.
+ * answer before anything else. The calls for a whole job and for a segment give a struct norx_outcome: the answer, and
+ * how much work it was ("Runs").
  *
  * WIDTHS           32-bit words    64-bit words
  *   width               32              64        given as a number; any other is answered 11
@@ -43,6 +44,20 @@
  * a list for the body, which has another limit there ("Lists").
  * norx_list_length gives a length, and norx_list_read what it read, with the number of a bad line in place of an answer.
  * The numbers 6 to 9 and 12 are for sessions and are never given by these calls.
+ *
+ * RUNS
+ *   NORX works by running a permutation, P, of 4 or 6 rounds. norx_seal, norx_open, norx_segment_seal and
+ *   norx_segment_open say beside the answer how many times it ran, so that a machine can be planned:
+ *     on 0 and on 10        3, and for each of header, body and trailer that has n bytes, n > 0, n / R + 1 more,
+ *                           n / R rounded down
+ *     on any other answer   0
+ *   R is 48 bytes at 32-bit words, and 96 at 64-bit words; an empty part adds nothing. In opening the body is the
+ *   sealed text without its tag: so opening a text takes as many runs as sealing it did, and on 10 as many as on 0.
+ *   The header of a segment is job number, revision and note, 16 bytes more than the note, so it is never empty; a
+ *   segment has no trailer.
+ *   The most runs      32-bit words    64-bit words
+ *     for a whole job     352,261         176,132      header and trailer of 65,536 bytes, body of 16,777,216
+ *     for a segment         2,735           1,369      note of 65,520 bytes, body of 65,536
  *
  * SEGMENTS
  *   A long job can be cut into segments, so that a tool is served before all of the job is there. Each segment is sealed
@@ -131,7 +146,7 @@
 extern "C" {
 #endif
 
-#define JECZMILOT_VERSION "0.5"
+#define JECZMILOT_VERSION "0.6"
 
 /* The answers. */
 #define JECZMILOT_DONE 0
@@ -168,6 +183,12 @@ extern "C" {
 #define JECZMILOT_SEGMENT_BYTES 65536
 #define JECZMILOT_SEGMENTS_LIMIT 1048576
 
+/* The most runs of P in one call on a whole job, and on a segment, at each width. */
+#define JECZMILOT_RUNS_LIMIT_32 352261
+#define JECZMILOT_RUNS_LIMIT_64 176132
+#define JECZMILOT_SEGMENT_RUNS_LIMIT_32 2735
+#define JECZMILOT_SEGMENT_RUNS_LIMIT_64 1369
+
 /* The most bytes of a body that has a list, and of a list. */
 #define JECZMILOT_LIST_BODY_LIMIT UINT64_C(68719476736)
 #define JECZMILOT_LIST_LIMIT 57609146
@@ -181,40 +202,46 @@ extern "C" {
 #endif
 #endif
 
+/* What a call on a whole job or on a segment gives. */
+struct norx_outcome {
+    uint32_t answer; /* look at it first */
+    uint32_t runs;   /* how many times P ran; 0 where the answer is neither 0 nor 10 */
+};
+
 /* Seals a body under a key and a nonce, bound to a header and a trailer that are not encrypted.
  * On 0 out holds ciphertext and tag; on any other answer it is unchanged. Answers 0, 11, 2, 1, 4 or 5. */
 JECZMILOT_LOOK_AT_THE_ANSWER
-uint32_t norx_seal(uint32_t width, uint32_t rounds,
-                   const uint8_t *key, size_t key_len,
-                   const uint8_t *nonce, size_t nonce_len,
-                   const uint8_t *header, size_t header_len,
-                   const uint8_t *body, size_t body_len,
-                   const uint8_t *trailer, size_t trailer_len,
-                   uint8_t *out, size_t out_len);
+struct norx_outcome norx_seal(uint32_t width, uint32_t rounds,
+                              const uint8_t *key, size_t key_len,
+                              const uint8_t *nonce, size_t nonce_len,
+                              const uint8_t *header, size_t header_len,
+                              const uint8_t *body, size_t body_len,
+                              const uint8_t *trailer, size_t trailer_len,
+                              uint8_t *out, size_t out_len);
 
 /* Opens a sealed text under the key, nonce, header and trailer that it was sealed with.
  * On 0 out holds the message, the one that seals to this text. On 10 there is no such message, and every byte of out
  * is zero. On any other answer out is unchanged. Answers 0, 11, 2, 1, 3, 4, 5 or 10. */
 JECZMILOT_LOOK_AT_THE_ANSWER
-uint32_t norx_open(uint32_t width, uint32_t rounds,
-                   const uint8_t *key, size_t key_len,
-                   const uint8_t *nonce, size_t nonce_len,
-                   const uint8_t *header, size_t header_len,
-                   const uint8_t *sealed, size_t sealed_len,
-                   const uint8_t *trailer, size_t trailer_len,
-                   uint8_t *out, size_t out_len);
+struct norx_outcome norx_open(uint32_t width, uint32_t rounds,
+                              const uint8_t *key, size_t key_len,
+                              const uint8_t *nonce, size_t nonce_len,
+                              const uint8_t *header, size_t header_len,
+                              const uint8_t *sealed, size_t sealed_len,
+                              const uint8_t *trailer, size_t trailer_len,
+                              uint8_t *out, size_t out_len);
 
 /* Seals one segment of a job; nonce is the job nonce, and last says whether it is the job's last segment.
  * On 0 out holds ciphertext and tag; on any other answer it is unchanged. Answers 0, 11, 13, 2, 1, 4 or 5. */
 JECZMILOT_LOOK_AT_THE_ANSWER
-uint32_t norx_segment_seal(uint32_t width, uint32_t rounds,
-                           const uint8_t *key, size_t key_len,
-                           const uint8_t *nonce, size_t nonce_len,
-                           uint64_t job, uint64_t revision,
-                           const uint8_t *note, size_t note_len,
-                           uint64_t index, uint32_t last,
-                           const uint8_t *body, size_t body_len,
-                           uint8_t *out, size_t out_len);
+struct norx_outcome norx_segment_seal(uint32_t width, uint32_t rounds,
+                                      const uint8_t *key, size_t key_len,
+                                      const uint8_t *nonce, size_t nonce_len,
+                                      uint64_t job, uint64_t revision,
+                                      const uint8_t *note, size_t note_len,
+                                      uint64_t index, uint32_t last,
+                                      const uint8_t *body, size_t body_len,
+                                      uint8_t *out, size_t out_len);
 
 /* Opens the segment that the host waits for: index is how many it has accepted, complete whether the last is among
  * them, and last whether this one came flagged last.
@@ -222,14 +249,14 @@ uint32_t norx_segment_seal(uint32_t width, uint32_t rounds,
  * On 10 no message seals to this text for that index and flag, and every byte of out is zero. On any other answer out is
  * unchanged. On 10 and the others keep index and complete as they were. Answers 0, 11, 14, 13, 2, 1, 4, 5 or 10. */
 JECZMILOT_LOOK_AT_THE_ANSWER
-uint32_t norx_segment_open(uint32_t width, uint32_t rounds,
-                           const uint8_t *key, size_t key_len,
-                           const uint8_t *nonce, size_t nonce_len,
-                           uint64_t job, uint64_t revision,
-                           const uint8_t *note, size_t note_len,
-                           uint64_t index, uint32_t complete, uint32_t last,
-                           const uint8_t *sealed, size_t sealed_len,
-                           uint8_t *out, size_t out_len);
+struct norx_outcome norx_segment_open(uint32_t width, uint32_t rounds,
+                                      const uint8_t *key, size_t key_len,
+                                      const uint8_t *nonce, size_t nonce_len,
+                                      uint64_t job, uint64_t revision,
+                                      const uint8_t *note, size_t note_len,
+                                      uint64_t index, uint32_t complete, uint32_t last,
+                                      const uint8_t *sealed, size_t sealed_len,
+                                      uint8_t *out, size_t out_len);
 
 /* The exact length of the list of a job whose body has length bytes; 0 where that is over its limit, for then it has no
  * list. */

@@ -21,13 +21,6 @@ static const double run_seconds = 60;
 /* Cost per byte may differ by so much between 64 KiB and 1 MiB and still be called linear. */
 static const double linear_within = 1.25;
 
-typedef uint32_t one_call(uint32_t width, uint32_t rounds, const uint8_t *key, size_t key_len, const uint8_t *nonce,
-                          size_t nonce_len, const uint8_t *header, size_t header_len, const uint8_t *body,
-                          size_t body_len, const uint8_t *trailer, size_t trailer_len, uint8_t *out, size_t out_len);
-
-/* The library and the reference. */
-static one_call *const seals[SIDES] = {norx_seal, reference_seal}, *const opens[SIDES] = {norx_open, reference_open};
-
 /* One line of the table; the seconds are the best that one call took. */
 struct line {
     uint32_t width, rounds;
@@ -42,22 +35,38 @@ static struct line lines[KINDS][SIZES];
 static uint8_t key[LONGEST_TAG], nonce[LONGEST_TAG];
 static uint8_t body[LARGEST], sealed[LARGEST + LONGEST_TAG], out[LARGEST + LONGEST_TAG];
 
-static void seal_by(int side, const struct line *line)
+/* Side 0 is the library, side 1 the reference. */
+
+static uint32_t answer_of_seal(int side, const struct line *line)
 {
     size_t tag = line->width / 2;
 
-    demand(seals[side](line->width, line->rounds, key, tag, nonce, tag, NULL, 0, body, line->size, NULL, 0, out,
-                       line->size + tag) == 0,
-           "sealing was refused");
+    if (side == 0)
+        return norx_seal(line->width, line->rounds, key, tag, nonce, tag, NULL, 0, body, line->size, NULL, 0, out,
+                         line->size + tag).answer;
+    return reference_seal_answer(line->width, line->rounds, key, tag, nonce, tag, NULL, 0, body, line->size, NULL, 0,
+                                 out, line->size + tag);
+}
+
+static uint32_t answer_of_open(int side, const struct line *line)
+{
+    size_t tag = line->width / 2;
+
+    if (side == 0)
+        return norx_open(line->width, line->rounds, key, tag, nonce, tag, NULL, 0, sealed, line->size + tag, NULL, 0,
+                         out, line->size).answer;
+    return reference_open_answer(line->width, line->rounds, key, tag, nonce, tag, NULL, 0, sealed, line->size + tag,
+                                 NULL, 0, out, line->size);
+}
+
+static void seal_by(int side, const struct line *line)
+{
+    demand(answer_of_seal(side, line) == 0, "sealing was refused");
 }
 
 static void open_by(int side, const struct line *line)
 {
-    size_t tag = line->width / 2;
-
-    demand(opens[side](line->width, line->rounds, key, tag, nonce, tag, NULL, 0, sealed, line->size + tag, NULL, 0,
-                       out, line->size) == 0,
-           "opening was refused");
+    demand(answer_of_open(side, line) == 0, "opening was refused");
 }
 
 static double seconds_per_call(int side, const struct line *line)

@@ -1,5 +1,6 @@
 #!/bin/sh
-# Builds the benchmarks with the archive and runs them: the library beside the reference, lists too, and segments beside one call:
+# Builds the benchmarks with the archive and runs them: the library beside the reference, lists too, segments beside one
+# call, and what jobs cost in runs of P:
 #   tests/bench.sh [ARCHIVE]
 
 set -eu
@@ -13,7 +14,7 @@ mkdir -p target/tests
 $CC $CFLAGS -Iinclude -Itests/reference -o "$program" tests/bench.c tests/reference/norx.c "$archive" $LDFLAGS
 # shellcheck disable=SC2086
 $CC $CFLAGS -pthread -Iinclude -Itests/reference -o "${program}_segments" \
-    tests/bench_segments.c tests/reference/norx.c tests/reference/segments.c "$archive" $LDFLAGS
+    tests/bench_segments.c tests/reference/norx.c tests/reference/outcomes.c tests/reference/segments.c "$archive" $LDFLAGS
 # shellcheck disable=SC2086
 $CC $CFLAGS -Iinclude -Itests/reference -o "${program}_list" tests/bench_list.c tests/reference/lists.c "$archive" $LDFLAGS
 $RUN "$program"

@@ -52,30 +52,33 @@ static uint8_t segments[SEGMENTS][JECZMILOT_SEGMENT_BYTES + LONGEST_TAG];
 static void seal_whole(uint32_t width)
 {
     size_t tag = width / 2;
+    struct norx_outcome outcome = norx_seal(width, ROUNDS, key, tag, nonce, tag, header, HEADER_BYTES, body,
+                                            sizeof body, NULL, 0, whole, sizeof body + tag);
 
-    demand(norx_seal(width, ROUNDS, key, tag, nonce, tag, header, HEADER_BYTES, body, sizeof body, NULL, 0, whole,
-                     sizeof body + tag) == 0,
-           "sealing in one call was refused");
+    demand(outcome.answer == 0, "sealing in one call was refused");
 }
 
 static void open_whole(uint32_t width)
 {
     size_t tag = width / 2;
+    struct norx_outcome outcome = norx_open(width, ROUNDS, key, tag, nonce, tag, header, HEADER_BYTES, whole,
+                                            sizeof body + tag, NULL, 0, out, sizeof out);
 
-    demand(norx_open(width, ROUNDS, key, tag, nonce, tag, header, HEADER_BYTES, whole, sizeof body + tag, NULL, 0,
-                     out, sizeof out) == 0,
-           "opening in one call was refused");
+    demand(outcome.answer == 0, "opening in one call was refused");
 }
 
 static void seal_segments(uint32_t width)
 {
     size_t tag = width / 2;
 
-    for (size_t i = 0; i < SEGMENTS; i++)
-        demand(norx_segment_seal(width, ROUNDS, key, tag, nonce, tag - 8, job, revision, note, NOTE_BYTES, i,
-                                 i == SEGMENTS - 1, body + i * JECZMILOT_SEGMENT_BYTES, JECZMILOT_SEGMENT_BYTES,
-                                 segments[i], JECZMILOT_SEGMENT_BYTES + tag) == 0,
-               "sealing of a segment was refused");
+    for (size_t i = 0; i < SEGMENTS; i++) {
+        struct norx_outcome outcome =
+            norx_segment_seal(width, ROUNDS, key, tag, nonce, tag - 8, job, revision, note, NOTE_BYTES, i,
+                              i == SEGMENTS - 1, body + i * JECZMILOT_SEGMENT_BYTES, JECZMILOT_SEGMENT_BYTES,
+                              segments[i], JECZMILOT_SEGMENT_BYTES + tag);
+
+        demand(outcome.answer == 0, "sealing of a segment was refused");
+    }
 }
 
 /* Opens the segments first, first + step, and so on. */
@@ -83,11 +86,14 @@ static void open_some(uint32_t width, size_t first, size_t step)
 {
     size_t tag = width / 2;
 
-    for (size_t i = first; i < SEGMENTS; i += step)
-        demand(norx_segment_open(width, ROUNDS, key, tag, nonce, tag - 8, job, revision, note, NOTE_BYTES, i, 0,
-                                 i == SEGMENTS - 1, segments[i], JECZMILOT_SEGMENT_BYTES + tag,
-                                 out + i * JECZMILOT_SEGMENT_BYTES, JECZMILOT_SEGMENT_BYTES) == 0,
-               "opening of a segment was refused");
+    for (size_t i = first; i < SEGMENTS; i += step) {
+        struct norx_outcome outcome =
+            norx_segment_open(width, ROUNDS, key, tag, nonce, tag - 8, job, revision, note, NOTE_BYTES, i, 0,
+                              i == SEGMENTS - 1, segments[i], JECZMILOT_SEGMENT_BYTES + tag,
+                              out + i * JECZMILOT_SEGMENT_BYTES, JECZMILOT_SEGMENT_BYTES);
+
+        demand(outcome.answer == 0, "opening of a segment was refused");
+    }
 }
 
 struct share {

@@ -45,6 +45,7 @@ struct job {
     size_t tag_len, note_len, body_len, trailer_len;
     uint8_t header[JECZMILOT_HEADER_LIMIT], sealed[LONGEST + LONGEST_TAG];
     size_t header_len;
+    uint32_t runs; /* of P, as norx_seal reports them; every other call on the whole job is to report the same */
 };
 
 /* Whether calls are written, or their answers read. */
@@ -98,23 +99,26 @@ static void draw_job(struct job *job, size_t number)
 static void seal_in_one_call(struct job *job)
 {
     struct edition edition = job->edition;
-    uint32_t answer;
+    struct norx_outcome outcome;
 
     job->header_len = session_header(job->header, edition.job, edition.revision, job->note, job->note_len);
-    answer = norx_seal(job->width, job->rounds, job->key, job->tag_len, job->nonce, job->tag_len, job->header,
-                       job->header_len, job->body, job->body_len, job->trailer, job->trailer_len, job->sealed,
-                       job->body_len + job->tag_len);
-    demand(answer == JECZMILOT_DONE, job, "norx_seal does not seal it");
+    outcome = norx_seal(job->width, job->rounds, job->key, job->tag_len, job->nonce, job->tag_len, job->header,
+                        job->header_len, job->body, job->body_len, job->trailer, job->trailer_len, job->sealed,
+                        job->body_len + job->tag_len);
+    demand(outcome.answer == JECZMILOT_DONE, job, "norx_seal does not seal it");
+    job->runs = outcome.runs;
 }
 
 static void open_in_one_call(const struct job *job, const uint8_t *text)
 {
     uint8_t opened[LONGEST];
-    uint32_t answer = norx_open(job->width, job->rounds, job->key, job->tag_len, job->nonce, job->tag_len, job->header,
-                                job->header_len, text, job->body_len + job->tag_len, job->trailer, job->trailer_len,
-                                opened, job->body_len);
+    struct norx_outcome outcome =
+        norx_open(job->width, job->rounds, job->key, job->tag_len, job->nonce, job->tag_len, job->header,
+                  job->header_len, text, job->body_len + job->tag_len, job->trailer, job->trailer_len, opened,
+                  job->body_len);
 
-    demand(answer == JECZMILOT_DONE, job, "norx_open does not open what the session sealed");
+    demand(outcome.answer == JECZMILOT_DONE, job, "norx_open does not open what the session sealed");
+    demand(outcome.runs == job->runs, job, "norx_open reports other runs of P than norx_seal");
     demand(memcmp(opened, job->body, job->body_len) == 0, job, "norx_open gives another body");
 }
 
@@ -135,19 +139,40 @@ static void expect_line(const struct job *job, const char *expected, const char 
     demand(fgets(line, sizeof line, stdin) != NULL && strcmp(line, expected) == 0, job, what);
 }
 
-/* Reads 0 and so many bytes. */
-static void expect_bytes(const struct job *job, uint8_t *bytes, size_t length)
+/* Reads so many bytes behind a front. */
+static void expect_bytes(const struct job *job, const char *front, uint8_t *bytes, size_t length, const char *what)
 {
-    char line[2 * LONGEST + 8];
+    char line[2 * LONGEST + 32];
+    size_t front_length = strlen(front);
 
-    if (length == 0) {
-        expect_line(job, "0 -\n", "a piece is not taken, or has an output");
-        return;
-    }
-    demand(fgets(line, sizeof line, stdin) != NULL && strncmp(line, "0 ", 2) == 0, job, "a piece is not taken");
-    demand(strlen(line) == 2 + 2 * length + 1, job, "an output has another length");
+    demand(fgets(line, sizeof line, stdin) != NULL && strncmp(line, front, front_length) == 0, job, what);
+    demand(strlen(line) == front_length + 2 * length + 1, job, "an output has another length");
     for (size_t i = 0; i < length; i++)
-        demand(sscanf(line + 2 + 2 * i, "%2" SCNx8, &bytes[i]) == 1, job, "an output is no bytes");
+        demand(sscanf(line + front_length + 2 * i, "%2" SCNx8, &bytes[i]) == 1, job, "an output is no bytes");
+}
+
+static void expect_piece(const struct job *job, uint8_t *bytes, size_t length)
+{
+    if (length == 0)
+        expect_line(job, "0 -\n", "a piece is not taken, or has an output");
+    else
+        expect_bytes(job, "0 ", bytes, length, "a piece is not taken");
+}
+
+static void expect_tag(const struct job *job, uint8_t *tag)
+{
+    char front[32];
+
+    snprintf(front, sizeof front, "0 %" PRIu32 " ", job->runs);
+    expect_bytes(job, front, tag, job->tag_len, "a session is not closed, or with other runs of P than norx_seal");
+}
+
+static void expect_verdict(const struct job *job, uint32_t answer, const char *what)
+{
+    char line[32];
+
+    snprintf(line, sizeof line, "%" PRIu32 " %" PRIu32 "\n", answer, job->runs);
+    expect_line(job, line, what);
 }
 
 static void start(const struct job *job, const char *verb, struct edition edition)
@@ -174,21 +199,21 @@ static void offer(struct job *job, struct edition edition, const char *part, con
             write_bytes(bytes + offset, cut);
             printf(" %zu\n", out != NULL ? cut : 0);
         } else {
-            expect_bytes(job, out != NULL ? out + offset : NULL, out != NULL ? cut : 0);
+            expect_piece(job, out != NULL ? out + offset : NULL, out != NULL ? cut : 0);
         }
         pieces++;
     }
 }
 
 /* Checks the text of one call in a session for this edition; every piece says that it is of that edition. */
-static void check_in_pieces(struct job *job, struct edition edition, const char *answer, const char *what)
+static void check_in_pieces(struct job *job, struct edition edition, uint32_t answer, const char *what)
 {
     start(job, "checking", edition);
     offer(job, edition, "note", job->note, job->note_len, NULL);
     offer(job, edition, "body", job->sealed, job->body_len, NULL);
     offer(job, edition, "trailer", job->trailer, job->trailer_len, NULL);
     if (!asks) {
-        expect_line(job, answer, what);
+        expect_verdict(job, answer, what);
         return;
     }
     printf("check %" PRIu64 " %" PRIu64 " ", edition.job, edition.revision);
@@ -207,7 +232,7 @@ static void seal_in_pieces(struct job *job, uint8_t *text)
     if (asks)
         printf("close %" PRIu64 " %" PRIu64 " %zu\n", edition.job, edition.revision, job->tag_len);
     else
-        expect_bytes(job, text + job->body_len, job->tag_len);
+        expect_tag(job, text + job->body_len);
 }
 
 static void both_ways(struct job *job)
@@ -216,8 +241,10 @@ static void both_ways(struct job *job)
     uint8_t text[LONGEST + LONGEST_TAG];
 
     seal_in_one_call(job);
-    check_in_pieces(job, job->edition, "0\n", "a session for its job does not check it with 0");
-    check_in_pieces(job, other, "10\n", "a session for another job does not check it with 10");
+    check_in_pieces(job, job->edition, JECZMILOT_DONE,
+                    "a session for its job does not check it with 0 and the runs of P of norx_seal");
+    check_in_pieces(job, other, JECZMILOT_TAG_DIFFERS,
+                    "a session for another job does not check it with 10 and the runs of P of norx_seal");
     seal_in_pieces(job, text);
     if (asks)
         return;
@@ -242,7 +269,7 @@ int main(int count, char **arguments)
         return fflush(stdout) != 0;
     demand(getchar() == EOF, &job, "there is more behind the last answer");
     printf("%d jobs, %zu pieces: what one call seals is answered 0 in a session for its job and 10 in one for another; "
-           "what a session seals is the same text, and opens in one call\n",
+           "what a session seals is the same text, and opens in one call; all report the same runs of P\n",
            JOBS, pieces);
     return 0;
 }

@@ -96,6 +96,7 @@ int main(int count, char **arguments)
     whole_messages(&message, options.vectors);
     segments(&message);
     lists();
+    runs_by_hand(&message);
     message_free(&message);
     return cases_finish();
 }

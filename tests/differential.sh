@@ -8,8 +8,8 @@ set -eu
 
 program=$root/target/tests/differential
 mkdir -p target/tests
-# The flags are lists of words.
+# The flags are lists of words. With COUNT_RUNS the reference counts the runs of P.
 # shellcheck disable=SC2086
-$CC $CFLAGS -Iinclude -Itests/reference -o "$program" \
+$CC $CFLAGS -DCOUNT_RUNS -Iinclude -Itests/reference -o "$program" \
     tests/differential.c tests/differential/*.c tests/reference/*.c "$archive" $LDFLAGS
 $RUN "$program" "$root/tests/vectors/norx-3.0.txt" --runner "$RUN" "$@"

@@ -10,9 +10,10 @@ cd "$(dirname "$0")/.."
 
 mkdir -p target/tests
 # The model links nothing of the library, so it is compiled for the host's own processor. The flags are a list of words.
+# With COUNT_RUNS the reference counts the runs of P.
 # shellcheck disable=SC2086
-cc $CFLAGS -Itests/reference -Itests/differential -o target/tests/sessions \
-    tests/sessions.c tests/sessions/*.c tests/reference/norx.c
+cc $CFLAGS -DCOUNT_RUNS -Itests/reference -Itests/differential -o target/tests/sessions \
+    tests/sessions.c tests/sessions/*.c tests/reference/norx.c tests/reference/outcomes.c
 if [ "${1-}" = --say ]; then
     exec target/tests/sessions --say
 fi

@@ -11,29 +11,6 @@
 #include "norx.h"
 #include "segments.h"
 
-typedef uint32_t one_call(uint32_t width, uint32_t rounds, const uint8_t *key, size_t key_len, const uint8_t *nonce,
-                          size_t nonce_len, const uint8_t *header, size_t header_len, const uint8_t *body,
-                          size_t body_len, const uint8_t *trailer, size_t trailer_len, uint8_t *out, size_t out_len);
-
-typedef uint32_t segment_seal(uint32_t width, uint32_t rounds, const uint8_t *key, size_t key_len,
-                              const uint8_t *nonce, size_t nonce_len, uint64_t job, uint64_t revision,
-                              const uint8_t *note, size_t note_len, uint64_t index, uint32_t last,
-                              const uint8_t *body, size_t body_len, uint8_t *out, size_t out_len);
-
-typedef uint32_t segment_open(uint32_t width, uint32_t rounds, const uint8_t *key, size_t key_len,
-                              const uint8_t *nonce, size_t nonce_len, uint64_t job, uint64_t revision,
-                              const uint8_t *note, size_t note_len, uint64_t index, uint32_t complete, uint32_t last,
-                              const uint8_t *sealed, size_t sealed_len, uint8_t *out, size_t out_len);
-
-struct side {
-    one_call *seal, *open;
-    segment_seal *segment_seal;
-    segment_open *segment_open;
-};
-
-static const struct side library = {norx_seal, norx_open, norx_segment_seal, norx_segment_open};
-static const struct side reference = {reference_seal, reference_open, reference_segment_seal, reference_segment_open};
-
 enum { INPUTS = 5 };
 
 static const char *const input_names[INPUTS] = {"key", "nonce", "header or note", "body or sealed text", "trailer"};
@@ -41,6 +18,7 @@ static const char *const input_names[INPUTS] = {"key", "nonce", "header or note"
 static struct guarded lent_inputs[INPUTS];
 static struct guarded library_output, reference_output;
 static enum operation last_operation;
+static uint32_t last_runs;
 
 const char *operation_name(enum operation operation)
 {
@@ -49,28 +27,59 @@ const char *operation_name(enum operation operation)
     return names[operation];
 }
 
-static uint32_t make_segment(const struct side *side, const struct call *c, uint8_t *out)
+static struct norx_outcome call_library(const struct call *c, uint8_t *out)
 {
     const struct place *p = &c->place;
 
-    if (c->operation == SEGMENT_SEAL)
-        return side->segment_seal(c->width, c->rounds, c->key.at, c->key.length, c->nonce.at, c->nonce.length, p->job,
-                                  p->revision, c->header.at, c->header.length, p->index, p->last, c->body.at,
-                                  c->body.length, out, c->out_len);
-    return side->segment_open(c->width, c->rounds, c->key.at, c->key.length, c->nonce.at, c->nonce.length, p->job,
-                              p->revision, c->header.at, c->header.length, p->index, p->complete, p->last, c->body.at,
-                              c->body.length, out, c->out_len);
+    switch (c->operation) {
+    case SEAL:
+        return norx_seal(c->width, c->rounds, c->key.at, c->key.length, c->nonce.at, c->nonce.length, c->header.at,
+                         c->header.length, c->body.at, c->body.length, c->trailer.at, c->trailer.length, out,
+                         c->out_len);
+    case OPEN:
+        return norx_open(c->width, c->rounds, c->key.at, c->key.length, c->nonce.at, c->nonce.length, c->header.at,
+                         c->header.length, c->body.at, c->body.length, c->trailer.at, c->trailer.length, out,
+                         c->out_len);
+    case SEGMENT_SEAL:
+        return norx_segment_seal(c->width, c->rounds, c->key.at, c->key.length, c->nonce.at, c->nonce.length, p->job,
+                                 p->revision, c->header.at, c->header.length, p->index, p->last, c->body.at,
+                                 c->body.length, out, c->out_len);
+    default:
+        return norx_segment_open(c->width, c->rounds, c->key.at, c->key.length, c->nonce.at, c->nonce.length, p->job,
+                                 p->revision, c->header.at, c->header.length, p->index, p->complete, p->last,
+                                 c->body.at, c->body.length, out, c->out_len);
+    }
 }
 
-static uint32_t make(const struct side *side, const struct call *c, struct guarded *output)
+static struct reference_outcome call_reference(const struct call *c, uint8_t *out)
 {
-    uint8_t *out = c->out_is_null ? NULL : output->bytes;
-    one_call *function = c->operation == SEAL ? side->seal : side->open;
+    const struct place *p = &c->place;
 
-    if (c->operation == SEGMENT_SEAL || c->operation == SEGMENT_OPEN)
-        return make_segment(side, c, out);
-    return function(c->width, c->rounds, c->key.at, c->key.length, c->nonce.at, c->nonce.length, c->header.at,
-                    c->header.length, c->body.at, c->body.length, c->trailer.at, c->trailer.length, out, c->out_len);
+    switch (c->operation) {
+    case SEAL:
+        return reference_seal(c->width, c->rounds, c->key.at, c->key.length, c->nonce.at, c->nonce.length,
+                              c->header.at, c->header.length, c->body.at, c->body.length, c->trailer.at,
+                              c->trailer.length, out, c->out_len);
+    case OPEN:
+        return reference_open(c->width, c->rounds, c->key.at, c->key.length, c->nonce.at, c->nonce.length,
+                              c->header.at, c->header.length, c->body.at, c->body.length, c->trailer.at,
+                              c->trailer.length, out, c->out_len);
+    case SEGMENT_SEAL:
+        return reference_segment_seal(c->width, c->rounds, c->key.at, c->key.length, c->nonce.at, c->nonce.length,
+                                      p->job, p->revision, c->header.at, c->header.length, p->index, p->last,
+                                      c->body.at, c->body.length, out, c->out_len);
+    default:
+        return reference_segment_open(c->width, c->rounds, c->key.at, c->key.length, c->nonce.at, c->nonce.length,
+                                      p->job, p->revision, c->header.at, c->header.length, p->index, p->complete,
+                                      p->last, c->body.at, c->body.length, out, c->out_len);
+    }
+}
+
+/* Fills the output anew, and gives what the call is lent of it. */
+static uint8_t *lend_output(const struct call *call, struct guarded *output)
+{
+    guarded_output(output, call->out_len, case_number());
+    return call->out_is_null ? NULL : output->bytes;
 }
 
 static struct bytes *input_of(struct call *call, int input)
@@ -120,13 +129,18 @@ static void compare_bytes(const char *other_name, const uint8_t *other, size_t l
         }
 }
 
-/* What the answer alone says of the output, whatever the reference does. */
-static void compare_with_rule(const char *operation, uint32_t answer)
+/* What the answer alone says of the output and the runs, whatever the reference does. */
+static void compare_with_rule(const char *operation, struct norx_outcome library)
 {
-    if (answer == BAD_TAG && !output_is_zero(&library_output))
+    bool is_refused = library.answer != DONE && library.answer != BAD_TAG;
+
+    if (library.answer == BAD_TAG && !output_is_zero(&library_output))
         case_differs("%s: answer 10 left an output that is not all zero", operation);
-    if (answer != DONE && answer != BAD_TAG && !output_is_untouched(&library_output))
-        case_differs("%s: answer %" PRIu32 " changed the output", operation, answer);
+    if (is_refused && !output_is_untouched(&library_output))
+        case_differs("%s: answer %" PRIu32 " changed the output", operation, library.answer);
+    if (is_refused && library.runs != 0)
+        case_differs("%s: answer %" PRIu32 " reports %" PRIu32 " runs of P and not 0", operation, library.answer,
+                     library.runs);
     if (!guards_are_intact(&library_output))
         case_differs("%s: the library wrote outside the output", operation);
     if (!guards_are_intact(&reference_output))
@@ -137,19 +151,29 @@ void compare_call(const struct call *call, uint32_t expected_answer)
 {
     const char *operation = operation_name(call->operation);
     struct call lent = lend_inputs(call);
-    uint32_t library_answer, reference_answer;
+    uint8_t *library_out = lend_output(call, &library_output);
+    uint8_t *reference_out = lend_output(call, &reference_output);
+    struct norx_outcome library = call_library(&lent, library_out);
+    struct reference_outcome reference = call_reference(call, reference_out);
 
     last_operation = call->operation;
-    guarded_output(&library_output, call->out_len, case_number());
-    guarded_output(&reference_output, call->out_len, case_number());
-    library_answer = make(&library, &lent, &library_output);
-    reference_answer = make(&reference, call, &reference_output);
-    if (library_answer != expected_answer || reference_answer != expected_answer)
+    last_runs = library.runs;
+    if (library.answer != expected_answer || reference.answer != expected_answer)
         case_differs("%s: answer %" PRIu32 ", the reference answers %" PRIu32 ", expected is %" PRIu32, operation,
-                     library_answer, reference_answer, expected_answer);
+                     library.answer, reference.answer, expected_answer);
+    if (library.runs != reference.runs)
+        case_differs("%s: answer %" PRIu32 " reports %" PRIu32 " runs of P, the reference counts %" PRIu32, operation,
+                     library.answer, library.runs, reference.runs);
     compare_bytes("the reference's output", reference_output.bytes, call->out_len);
-    compare_with_rule(operation, library_answer);
+    compare_with_rule(operation, library);
     compare_inputs(call);
+}
+
+void compare_runs(uint32_t expected)
+{
+    if (last_runs != expected)
+        case_differs("%s: %" PRIu32 " runs of P are reported, expected are %" PRIu32, operation_name(last_operation),
+                     last_runs, expected);
 }
 
 void compare_output(const uint8_t *expected, size_t length)

@@ -47,6 +47,9 @@ const char *operation_name(enum operation operation);
 /* Makes the call with library and reference and reports whatever differs between them, or from the answer. */
 void compare_call(const struct call *call, uint32_t expected_answer);
 
+/* Reports a difference between the library's last runs of P and this number. */
+void compare_runs(uint32_t expected);
+
 /* Reports a difference between the library's last output and these bytes. */
 void compare_output(const uint8_t *expected, size_t length);
 

@@ -65,4 +65,8 @@ void list_null_pointers(void);
 
 void largest_lists(void);
 
+/* Of whole messages and of segments. */
+
+void runs_by_hand(struct message *message);
+
 #endif

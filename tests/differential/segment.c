@@ -14,11 +14,14 @@ size_t job_nonce_length(struct instance instance)
 void segment_fill(struct message *m, struct instance instance, struct place place, size_t note_length,
                   size_t body_length, struct prng *prng)
 {
+    struct reference_outcome outcome;
+
     message_draw(m, instance, (struct lengths){note_length, body_length, 0}, prng);
     m->place = place;
-    if (reference_segment_seal(instance.width, instance.rounds, m->key, tag_length(instance), m->nonce,
-                               job_nonce_length(instance), place.job, place.revision, m->header, note_length,
-                               place.index, place.last, m->body, body_length, m->sealed, sealed_length(m)) != DONE)
+    outcome = reference_segment_seal(instance.width, instance.rounds, m->key, tag_length(instance), m->nonce,
+                                     job_nonce_length(instance), place.job, place.revision, m->header, note_length,
+                                     place.index, place.last, m->body, body_length, m->sealed, sealed_length(m));
+    if (outcome.answer != DONE)
         prng_fill(prng, m->sealed, sealed_length(m));
 }
 

@@ -5,8 +5,6 @@
 #include <stdbool.h>
 #include <string.h>
 
-#include "norx.h"
-
 enum { SEGMENT_BYTES = 65536, LAST_INDEX = 1048575, FRONT_BYTES = 16, NOTE_LIMIT = 65520, LONGEST_NONCE = 32 };
 
 enum {
@@ -99,10 +97,17 @@ static void put_together(struct bound *bound, const struct request *r)
     bound->header_len = FRONT_BYTES + r->note_len;
 }
 
-uint32_t reference_segment_seal(uint32_t width, uint32_t rounds, const uint8_t *key, size_t key_len,
-                                const uint8_t *nonce, size_t nonce_len, uint64_t job, uint64_t revision,
-                                const uint8_t *note, size_t note_len, uint64_t index, uint32_t last,
-                                const uint8_t *body, size_t body_len, uint8_t *out, size_t out_len)
+/* P has not run yet. */
+static struct reference_outcome refused(uint32_t answer)
+{
+    return (struct reference_outcome){answer, 0};
+}
+
+struct reference_outcome reference_segment_seal(uint32_t width, uint32_t rounds, const uint8_t *key, size_t key_len,
+                                                const uint8_t *nonce, size_t nonce_len, uint64_t job,
+                                                uint64_t revision, const uint8_t *note, size_t note_len,
+                                                uint64_t index, uint32_t last, const uint8_t *body, size_t body_len,
+                                                uint8_t *out, size_t out_len)
 {
     const struct request r = {width,    rounds, key_len,  nonce, nonce_len, job,
                               revision, note,   note_len, index, last != 0};
@@ -110,21 +115,23 @@ uint32_t reference_segment_seal(uint32_t width, uint32_t rounds, const uint8_t *
     uint32_t answer;
 
     if (!is_width(width))
-        return BAD_WIDTH;
+        return refused(BAD_WIDTH);
     if (!is_segment(&r, body_len))
-        return BAD_SEGMENT;
+        return refused(BAD_SEGMENT);
     answer = refuse_as_one_call(&r);
     if (answer != DONE)
-        return answer;
+        return refused(answer);
     put_together(&bound, &r);
     return reference_seal(width, rounds, key, key_len, bound.nonce, bound.nonce_len, bound.header, bound.header_len,
                           body, body_len, NULL, 0, out, out_len);
 }
 
-uint32_t reference_segment_open(uint32_t width, uint32_t rounds, const uint8_t *key, size_t key_len,
-                                const uint8_t *nonce, size_t nonce_len, uint64_t job, uint64_t revision,
-                                const uint8_t *note, size_t note_len, uint64_t index, uint32_t complete, uint32_t last,
-                                const uint8_t *sealed, size_t sealed_len, uint8_t *out, size_t out_len)
+struct reference_outcome reference_segment_open(uint32_t width, uint32_t rounds, const uint8_t *key, size_t key_len,
+                                                const uint8_t *nonce, size_t nonce_len, uint64_t job,
+                                                uint64_t revision, const uint8_t *note, size_t note_len,
+                                                uint64_t index, uint32_t complete, uint32_t last,
+                                                const uint8_t *sealed, size_t sealed_len, uint8_t *out,
+                                                size_t out_len)
 {
     const struct request r = {width,    rounds, key_len,  nonce, nonce_len, job,
                               revision, note,   note_len, index, last != 0};
@@ -132,14 +139,14 @@ uint32_t reference_segment_open(uint32_t width, uint32_t rounds, const uint8_t *
     uint32_t answer;
 
     if (!is_width(width))
-        return BAD_WIDTH;
+        return refused(BAD_WIDTH);
     if (complete != 0)
-        return AFTER_LAST;
+        return refused(AFTER_LAST);
     if (sealed_len < tag_length(width) || !is_segment(&r, sealed_len - tag_length(width)))
-        return BAD_SEGMENT;
+        return refused(BAD_SEGMENT);
     answer = refuse_as_one_call(&r);
     if (answer != DONE)
-        return answer;
+        return refused(answer);
     put_together(&bound, &r);
     return reference_open(width, rounds, key, key_len, bound.nonce, bound.nonce_len, bound.header, bound.header_len,
                           sealed, sealed_len, NULL, 0, out, out_len);

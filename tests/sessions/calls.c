@@ -3,7 +3,6 @@
 #include <inttypes.h>
 
 #include "calls.h"
-#include "norx.h"
 
 static void write_words(struct model *m, uint32_t width, const uint64_t words[16], bool are_known)
 {
@@ -31,11 +30,12 @@ static bool answer_one_call(struct model *m, const struct argument *a)
     const struct buffer *key = &a[2].bytes, *nonce = &a[3].bytes, *header = &a[4].bytes, *body = &a[5].bytes,
                         *trailer = &a[6].bytes;
     uint8_t *out = lend_output(m, a[7].number);
-    uint32_t answer = (m->verb->kind == SEALING ? reference_seal : reference_open)(
+    struct reference_outcome outcome = (m->verb->kind == SEALING ? reference_seal : reference_open)(
         (uint32_t)a[0].number, (uint32_t)a[1].number, key->at, key->length, nonce->at, nonce->length, header->at,
         header->length, body->at, body->length, trailer->at, trailer->length, out, m->output.length);
 
-    write_output(m, answer, true);
+    write_outcome(m, outcome);
+    write_output(m, true);
     return true;
 }
 
@@ -56,7 +56,8 @@ static bool answer_piece(struct model *m, const struct argument *a)
     if (m->session.kind == CHECKING && piece.out_len != 0)
         return false;
     answer = session_piece(&m->session, &piece, m->is_quiet ? NULL : out);
-    write_output(m, answer, certain || answer != DONE);
+    write_answer(m, answer);
+    write_output(m, certain || answer != DONE);
     return true;
 }
 
@@ -64,27 +65,28 @@ static bool answer_close(struct model *m, const struct argument *a)
 {
     bool certain = session_is_certain(&m->session);
     uint8_t *out = lend_output(m, a[2].number);
-    uint32_t answer;
+    struct reference_outcome outcome;
 
     if (m->session.kind != m->verb->kind)
         return false;
-    answer = session_close(&m->session, edition_at(a), out, m->output.length);
-    write_output(m, answer, certain || answer != DONE);
+    outcome = session_close(&m->session, edition_at(a), out, m->output.length);
+    write_outcome(m, outcome);
+    write_output(m, certain || outcome.answer != DONE);
     return true;
 }
 
 static bool answer_check(struct model *m, const struct argument *a)
 {
     bool certain = session_is_certain(&m->session);
-    uint32_t answer;
+    struct reference_outcome outcome;
 
     if (m->session.kind != m->verb->kind)
         return false;
-    answer = session_check(&m->session, edition_at(a), bytes_of(&a[2].bytes));
-    if (!certain && answer == DONE)
-        buffer_print(&m->reply, ".");
+    outcome = session_check(&m->session, edition_at(a), bytes_of(&a[2].bytes));
+    if (!certain && outcome.answer == DONE)
+        buffer_print(&m->reply, ". %" PRIu32, outcome.runs);
     else
-        write_answer(m, answer);
+        write_outcome(m, outcome);
     return true;
 }
 

@@ -8,8 +8,11 @@ uint8_t *lend_output(struct model *model, size_t length);
 
 void write_answer(struct model *model, uint32_t answer);
 
-/* The answer and the whole output. */
-void write_output(struct model *model, uint32_t answer, bool is_known);
+/* The answer and the runs of P. */
+void write_outcome(struct model *model, struct reference_outcome outcome);
+
+/* The whole output, behind what is written already. */
+void write_output(struct model *model, bool is_known);
 
 /* A job and a revision, which stand side by side wherever they stand. */
 struct edition edition_at(const struct argument *arguments);

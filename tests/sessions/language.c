@@ -63,10 +63,21 @@ void model_answer(struct model *m, struct bytes line)
     }
 }
 
-bool reply_fits(struct bytes reply, struct bytes written)
+/* How many bytes in front are 0 or 10. */
+static size_t verdict_length(struct bytes written)
 {
-    if (word_is(reply, "."))
-        return word_is(written, "0") || word_is(written, "10");
+    if (written.length > 1 && memcmp(written.at, "10", 2) == 0)
+        return 2;
+    return written.length > 0 && written.at[0] == '0' ? 1 : 0;
+}
+
+static struct bytes behind(struct bytes text, size_t front)
+{
+    return (struct bytes){text.at + front, text.length - front};
+}
+
+static bool fits_byte_by_byte(struct bytes reply, struct bytes written)
+{
     if (written.length != reply.length)
         return false;
     for (size_t i = 0; i < reply.length; i++) {
@@ -77,6 +88,15 @@ bool reply_fits(struct bytes reply, struct bytes written)
             return false;
     }
     return true;
+}
+
+bool reply_fits(struct bytes reply, struct bytes written)
+{
+    size_t verdict = verdict_length(written);
+
+    if (reply.length == 0 || reply.at[0] != '.')
+        return fits_byte_by_byte(reply, written);
+    return verdict > 0 && fits_byte_by_byte(behind(reply, 1), behind(written, verdict));
 }
 
 struct bytes next_line(struct bytes *text)

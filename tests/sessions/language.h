@@ -13,7 +13,7 @@ struct argument {
 };
 
 /* The program as it should be: the session and the receiver that it holds, the call at hand, and the line that is to
-   be written, in which a . stands for a digit that is not known, and a . alone for 0 or 10. */
+   be written, in which a . stands for a digit that is not known, and a . in front for 0 or 10. */
 struct model {
     struct session session;
     struct receiver receiver;

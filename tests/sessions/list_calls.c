@@ -9,7 +9,8 @@ bool answer_list(struct model *m, const struct argument *a)
 {
     uint8_t *out = lend_output(m, a[3].number);
 
-    write_output(m, list_write(edition_at(a), a[2].number, out, m->output.length), true);
+    write_answer(m, list_write(edition_at(a), a[2].number, out, m->output.length));
+    write_output(m, true);
     return true;
 }
 

@@ -2,13 +2,16 @@
 
 #include "message.h"
 
-#include "norx.h"
-
 const uint64_t part_limits[PARTS] = {65520, 16777216, 65536};
 
 size_t tag_length(uint32_t width)
 {
     return width / 2;
+}
+
+struct reference_outcome refused(uint32_t answer)
+{
+    return (struct reference_outcome){answer, 0};
 }
 
 void add_number(struct buffer *buffer, uint64_t number)
@@ -26,18 +29,18 @@ void message_begin(struct message *message, struct edition edition)
     add_number(note, edition.revision);
 }
 
-void message_seal(const struct message *m, struct buffer *sealed)
+struct reference_outcome message_seal(const struct message *m, struct buffer *sealed)
 {
     const struct buffer *note = &m->parts[NOTE], *body = &m->parts[BODY], *trailer = &m->parts[TRAILER];
     size_t tag = tag_length(m->width);
 
     sealed->length = 0;
     buffer_fill(sealed, 0, body->length + tag);
-    reference_seal(m->width, m->rounds, m->key, tag, m->nonce, tag, note->at, note->length, body->at, body->length,
-                   trailer->at, trailer->length, sealed->at, sealed->length);
+    return reference_seal(m->width, m->rounds, m->key, tag, m->nonce, tag, note->at, note->length, body->at,
+                          body->length, trailer->at, trailer->length, sealed->at, sealed->length);
 }
 
-uint32_t message_open(const struct message *m, struct bytes tag)
+struct reference_outcome message_open(const struct message *m, struct bytes tag)
 {
     static struct buffer sealed, opened;
     const struct buffer *note = &m->parts[NOTE], *body = &m->parts[BODY], *trailer = &m->parts[TRAILER];

@@ -2,6 +2,7 @@
 #define MESSAGE_H
 
 #include "buffer.h"
+#include "norx.h"
 
 enum { NOTE, BODY, TRAILER, PARTS };
 
@@ -29,6 +30,9 @@ struct message {
 
 size_t tag_length(uint32_t width);
 
+/* The outcome of a call that was refused before P ran. */
+struct reference_outcome refused(uint32_t answer);
+
 /* Eight bytes, least first. */
 void add_number(struct buffer *buffer, uint64_t number);
 
@@ -36,9 +40,9 @@ void add_number(struct buffer *buffer, uint64_t number);
 void message_begin(struct message *message, struct edition edition);
 
 /* Writes the ciphertext and the tag. */
-void message_seal(const struct message *message, struct buffer *sealed);
+struct reference_outcome message_seal(const struct message *message, struct buffer *sealed);
 
 /* Opens a message whose body is ciphertext. */
-uint32_t message_open(const struct message *message, struct bytes tag);
+struct reference_outcome message_open(const struct message *message, struct bytes tag);
 
 #endif

@@ -42,18 +42,18 @@ static uint32_t refuse_text(const struct receiver *r, bool is_last, size_t lengt
     return length >= tag && segment_is_ruled(r->index, is_last, length - tag) ? DONE : BAD_SEGMENT;
 }
 
-uint32_t receiver_take(struct receiver *r, struct bytes note, bool is_last, struct bytes text, uint8_t *out,
-                       size_t out_len)
+struct reference_outcome receiver_take(struct receiver *r, struct bytes note, bool is_last, struct bytes text,
+                                       uint8_t *out, size_t out_len)
 {
     struct series series = receiver_series(r);
     struct segment segment = {r->index, is_last, note, text};
-    uint32_t answer = refuse_text(r, is_last, text.length);
+    struct reference_outcome outcome = refused(refuse_text(r, is_last, text.length));
 
-    if (answer == DONE)
-        answer = segment_as_one_call(CHECKING, &series, &segment, out, out_len);
-    if (answer == DONE) {
+    if (outcome.answer == DONE)
+        outcome = segment_as_one_call(CHECKING, &series, &segment, out, out_len);
+    if (outcome.answer == DONE) {
         r->index++;
         r->is_complete = is_last;
     }
-    return answer;
+    return outcome;
 }

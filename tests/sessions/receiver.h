@@ -18,8 +18,8 @@ void receiver_clear(struct receiver *receiver, uint32_t width);
 uint32_t receiver_start(struct receiver *receiver, const struct series *series);
 
 /* Writes the message, or zeros where the tag differs. */
-uint32_t receiver_take(struct receiver *receiver, struct bytes note, bool is_last, struct bytes text, uint8_t *out,
-                       size_t out_len);
+struct reference_outcome receiver_take(struct receiver *receiver, struct bytes note, bool is_last, struct bytes text,
+                                       uint8_t *out, size_t out_len);
 
 /* What the segments that it takes have. */
 struct series receiver_series(const struct receiver *receiver);

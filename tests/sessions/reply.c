@@ -18,9 +18,13 @@ void write_answer(struct model *m, uint32_t answer)
     buffer_print(&m->reply, "%" PRIu32, answer);
 }
 
-void write_output(struct model *m, uint32_t answer, bool is_known)
+void write_outcome(struct model *m, struct reference_outcome outcome)
 {
-    write_answer(m, answer);
+    buffer_print(&m->reply, "%" PRIu32 " %" PRIu32, outcome.answer, outcome.runs);
+}
+
+void write_output(struct model *m, bool is_known)
+{
     buffer_print(&m->reply, " ");
     if (is_known || m->output.length == 0)
         buffer_hex(&m->reply, bytes_of(&m->output));

@@ -17,7 +17,8 @@ bool answer_segment(struct model *m, const struct argument *a)
     struct segment segment = {a[7].number, a[8].number != 0, bytes_of(&a[6].bytes), bytes_of(&a[9].bytes)};
     uint8_t *out = lend_output(m, a[10].number);
 
-    write_output(m, segment_seal(&series, &segment, out, m->output.length), true);
+    write_outcome(m, segment_seal(&series, &segment, out, m->output.length));
+    write_output(m, true);
     return true;
 }
 
@@ -32,10 +33,10 @@ bool answer_receiver(struct model *m, const struct argument *a)
 bool answer_take(struct model *m, const struct argument *a)
 {
     uint8_t *out = lend_output(m, a[3].number);
-    uint32_t answer = receiver_take(&m->receiver, bytes_of(&a[0].bytes), a[1].number != 0, bytes_of(&a[2].bytes), out,
-                                    m->output.length);
 
-    write_output(m, answer, true);
+    write_outcome(m, receiver_take(&m->receiver, bytes_of(&a[0].bytes), a[1].number != 0, bytes_of(&a[2].bytes), out,
+                                   m->output.length));
+    write_output(m, true);
     buffer_print(&m->reply, " %" PRIu64 " %d", m->receiver.index, m->receiver.is_complete);
     return true;
 }

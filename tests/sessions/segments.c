@@ -2,8 +2,6 @@
 
 #include "segments.h"
 
-#include "norx.h"
-
 bool segment_is_ruled(uint64_t index, bool is_last, uint64_t length)
 {
     if (index >= MOST_SEGMENTS || (index == MOST_SEGMENTS - 1 && !is_last))
@@ -15,8 +13,8 @@ bool segment_is_ruled(uint64_t index, bool is_last, uint64_t length)
 
 /* A job nonce of another length gives a nonce of another length, and too long a note too long a header: so the answers
    1 and 4 are those of the one call. */
-uint32_t segment_as_one_call(enum kind kind, const struct series *s, const struct segment *segment, uint8_t *out,
-                             size_t out_len)
+struct reference_outcome segment_as_one_call(enum kind kind, const struct series *s, const struct segment *segment,
+                                             uint8_t *out, size_t out_len)
 {
     static struct buffer nonce, header;
 
@@ -31,11 +29,12 @@ uint32_t segment_as_one_call(enum kind kind, const struct series *s, const struc
         segment->bytes.at, segment->bytes.length, NULL, 0, out, out_len);
 }
 
-uint32_t segment_seal(const struct series *s, const struct segment *segment, uint8_t *out, size_t out_len)
+struct reference_outcome segment_seal(const struct series *s, const struct segment *segment, uint8_t *out,
+                                      size_t out_len)
 {
     if (s->width != 32 && s->width != 64)
-        return BAD_WIDTH;
+        return refused(BAD_WIDTH);
     if (!segment_is_ruled(segment->index, segment->is_last, segment->bytes.length))
-        return BAD_SEGMENT;
+        return refused(BAD_SEGMENT);
     return segment_as_one_call(SEALING, s, segment, out, out_len);
 }

@@ -23,9 +23,10 @@ struct segment {
 bool segment_is_ruled(uint64_t index, bool is_last, uint64_t length);
 
 /* Seals or opens it as one call does, whatever the rule says. */
-uint32_t segment_as_one_call(enum kind kind, const struct series *series, const struct segment *segment, uint8_t *out,
-                             size_t out_len);
+struct reference_outcome segment_as_one_call(enum kind kind, const struct series *series,
+                                             const struct segment *segment, uint8_t *out, size_t out_len);
 
-uint32_t segment_seal(const struct series *series, const struct segment *segment, uint8_t *out, size_t out_len);
+struct reference_outcome segment_seal(const struct series *series, const struct segment *segment, uint8_t *out,
+                                      size_t out_len);
 
 #endif

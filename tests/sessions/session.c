@@ -4,7 +4,7 @@
 
 #include <string.h>
 
-#include "norx.h"
+#include "runs.h"
 
 void session_clear(struct session *s, enum kind kind, uint32_t width)
 {
@@ -108,31 +108,38 @@ static uint32_t refuse_close(const struct session *s, struct edition edition, si
     return tag == tag_length(s->joined.width) ? DONE : BAD_TAG_LENGTH;
 }
 
-uint32_t session_close(struct session *s, struct edition edition, uint8_t *out, size_t out_len)
+/* For a session that is not certain: its bytes are not known, but how many they are. */
+static struct reference_outcome done_by_counts(const struct session *s)
 {
-    static struct buffer sealed;
-    uint32_t answer = refuse_close(s, edition, out_len);
-
-    if (answer != DONE)
-        return answer;
-    if (session_is_certain(s)) {
-        message_seal(&s->joined, &sealed);
-        memcpy(out, sealed.at + s->joined.parts[BODY].length, out_len);
-    }
-    session_clear(s, s->kind, s->joined.width);
-    return DONE;
+    return (struct reference_outcome){DONE, runs_by_counts(s->joined.width, s->numbers.counts)};
 }
 
-uint32_t session_check(struct session *s, struct edition edition, struct bytes tag)
+struct reference_outcome session_close(struct session *s, struct edition edition, uint8_t *out, size_t out_len)
 {
-    uint32_t answer = refuse_close(s, edition, tag.length);
+    static struct buffer sealed;
+    struct reference_outcome outcome = refused(refuse_close(s, edition, out_len));
 
-    if (answer != DONE)
-        return answer;
-    if (session_is_certain(s))
-        answer = message_open(&s->joined, tag);
+    if (outcome.answer != DONE)
+        return outcome;
+    if (session_is_certain(s)) {
+        outcome = message_seal(&s->joined, &sealed);
+        memcpy(out, sealed.at + s->joined.parts[BODY].length, out_len);
+    } else {
+        outcome = done_by_counts(s);
+    }
     session_clear(s, s->kind, s->joined.width);
-    return answer;
+    return outcome;
+}
+
+struct reference_outcome session_check(struct session *s, struct edition edition, struct bytes tag)
+{
+    struct reference_outcome outcome = refused(refuse_close(s, edition, tag.length));
+
+    if (outcome.answer != DONE)
+        return outcome;
+    outcome = session_is_certain(s) ? message_open(&s->joined, tag) : done_by_counts(s);
+    session_clear(s, s->kind, s->joined.width);
+    return outcome;
 }
 
 void session_words(const struct session *s, uint64_t words[16])

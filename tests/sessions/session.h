@@ -45,10 +45,10 @@ bool session_is_certain(const struct session *session);
 uint32_t session_piece(struct session *session, const struct piece *piece, uint8_t *out);
 
 /* Writes the tag of a certain session. */
-uint32_t session_close(struct session *session, struct edition edition, uint8_t *out, size_t out_len);
+struct reference_outcome session_close(struct session *session, struct edition edition, uint8_t *out, size_t out_len);
 
 /* Of a session that is not certain the answer 0 may as well be 10. */
-uint32_t session_check(struct session *session, struct edition edition, struct bytes tag);
+struct reference_outcome session_check(struct session *session, struct edition edition, struct bytes tag);
 
 /* The words of the joined pieces, and all zero of a closed session. */
 void session_words(const struct session *session, uint64_t words[16]);

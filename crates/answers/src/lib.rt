@@ -1,6 +1,6 @@
-// The answers that every call gives, their numbers, and the order of refusals.
+// The answers that every call gives, their numbers, the order of refusals, and the runs of P that are reported with an answer.
 ghost use mathlib.Core.Path.{_≡_};
-ghost use Rattle.answers.specs.Answers.{numberOf, doneOf, needOf};
+ghost use Rattle.answers.specs.Answers.{numberOf, doneOf, needOf, reportedOf};
 
 // Done, or the cause of the refusal.
 pub enum Answer {
@@ -56,4 +56,22 @@ pub fn need(ok: bool, refusal: Answer, rest: Answer) -> Answer
     ensures { λ r. ⌜ r ≡ needOf ok refusal rest ⌝ }
 {
     if ok { rest } else { refusal }
+}
+
+// What a call answers, and how many times P ran for it.
+pub struct Outcome {
+    pub answer: Answer,
+    pub runs: u32,
+}
+
+// An answer with what it reports of the runs: all of them with 0 and 10, and none with any other refusal.
+pub fn reported(answer: Answer, runs: u32) -> Outcome
+    ensures { λ r. ⌜ r ≡ reportedOf answer runs ⌝ }
+{
+    let n = number(answer);
+    if (n == 0) | (n == 10) {
+        Outcome { answer, runs }
+    } else {
+        Outcome { answer, runs: 0 }
+    }
 }

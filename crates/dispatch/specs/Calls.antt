@@ -6,7 +6,7 @@ use mathlib.Core.List.{List, []}
 use lib.Dec.{eqb, ltb, leb}
 use lib.ListN.{length, take, drop}
 use Rattle.norx.specs.Norx.{Width, word32, word64, rowAt, wordAt, constants}
-use Rattle.answers.specs.declared.Answer.{Answer}
+use Rattle.answers.specs.declared.Outcome.{Outcome}
 use Rattle.places.specs.declared.terms.Edition.{Edition}
 use Rattle.places.specs.declared.terms.Terms.{Terms}
 use Rattle.places.specs.declared.Label.{Label}
@@ -14,7 +14,7 @@ use Rattle.places.specs.declared.Part.{Part}
 use Rattle.places.specs.declared.Part.the-variants.{Note, Body, Trailer}
 use Rattle.places.specs.declared.Standing.{Standing}
 use Rattle.places.specs.declared.Standing.the-variants.{Closed, Open}
-use Rattle.sealing.specs.Widths.{sealAnswerAt, sealOutAt, openAnswerAt, openOutAt}
+use Rattle.sealing.specs.Widths.{sealAnswerAt, sealRunsAt, sealOutAt, openAnswerAt, openRunsAt, openOutAt}
 use Rattle.held.specs.declared.Held.{Held}
 use Rattle.held.specs.declared.HeldStep.{HeldStep}
 use Rattle.held.specs.Held.{heldStart, heldPiece, heldPieceOut, heldClose, heldTag}
@@ -62,18 +62,22 @@ placed h a standing T =
 abbrev pub putCall : Words → Held → Held
 putCall a h = placed h a (standingOf (a .seventh)) (termsOf (a .fourth) (a .fifth) (a .sixth))
 
--- an answer that leaves the session as it was
-abbrev pub answered : Held → Answer → HeldStep
-answered h answer = record { answer = answer; session = h }
+-- an outcome that leaves the session as it was
+abbrev pub answered : Held → Outcome → HeldStep
+answered h o = record { answer = o .answer; runs = o .runs; session = h }
 
 -- by the number of a call: 1 seals, 2 opens, 3 starts a sealing and 4 a checking session, 5 offers a piece, and any other closes
 unfoldable pub byNumber : {A : Type 0} → ℕ → A → A → A → A → A → A → A
 byNumber k seals opens starts checks offers closes =
     cond (eqb k 1) seals (cond (eqb k 2) opens (cond (eqb k 3) starts (cond (eqb k 4) checks (cond (eqb k 5) offers closes))))
 
--- what one call answers and leaves in the output: an opening, or else a sealing
-unfoldable pub answerAt : Bool → ℕ → ℕ → List ℕ → List ℕ → List ℕ → List ℕ → List ℕ → List ℕ → Answer
-answerAt opens w l k n h d t out = cond opens (openAnswerAt w l k n h d t out) (sealAnswerAt w l k n h d t out)
+-- what one call answers and reports, and leaves in the output: an opening, or else a sealing
+unfoldable pub outcomeAt : Bool → ℕ → ℕ → List ℕ → List ℕ → List ℕ → List ℕ → List ℕ → List ℕ → Outcome
+outcomeAt opens w l k n h d t out =
+    cond
+    opens
+    (record { answer = openAnswerAt w l k n h d t out; runs = openRunsAt w l k n h d t out })
+    (record { answer = sealAnswerAt w l k n h d t out; runs = sealRunsAt w l k n h d t out })
 
 unfoldable pub outAt : Bool → ℕ → ℕ → List ℕ → List ℕ → List ℕ → List ℕ → List ℕ → List ℕ → List ℕ
 outAt opens w l k n h d t out = cond opens (openOutAt w l k n h d t out) (sealOutAt w l k n h d t out)
@@ -86,7 +90,7 @@ module _ (a : Words) (m : List ℕ) where
       (stretchOf (a .fifth) (a .sixth) m) (stretchOf (a .sixth) (a .seventh) m)
 
   unfoldable pub oneCall : Bool → Held → List ℕ → HeldStep
-  oneCall opens h out = answered h (byTexts (answerAt opens) out)
+  oneCall opens h out = answered h (byTexts (outcomeAt opens) out)
 
   unfoldable pub oneCallOut : Bool → List ℕ → List ℕ
   oneCallOut opens out = byTexts (outAt opens) out

@@ -5,6 +5,7 @@ use mathlib.Core.Bool.{cond}
 use mathlib.Core.List.{List}
 use lib.Dec.{eqb}
 use Rattle.answers.specs.declared.Answer.{Answer}
+use Rattle.answers.specs.declared.Outcome.{Outcome}
 use Rattle.held.specs.declared.HeldStep.{HeldStep}
 use Rattle.held.specs.declared.receiver.HeldReceiverStep.{HeldReceiverStep}
 use Rattle.dispatch.specs.declared.Words.{Words}
@@ -13,15 +14,18 @@ use Rattle.dispatch.specs.declared.kept.KeptStep.{KeptStep}
 use Rattle.dispatch.specs.Calls.{madeCall, madeOut}
 use Rattle.dispatch.specs.Segments.{segmentCall, segmentCallOut, receiverCall, takeCall, takeCallOut, listCall, listCallOut}
 
--- an answer that leaves all as it was; the step of a receiver, and that of a session
-abbrev pub keptAll : Kept → Answer → KeptStep
-keptAll h answer = record { answer = answer; kept = h }
+-- an outcome that leaves all as it was, and an answer with no runs; the step of a receiver, and that of a session
+abbrev pub keptAll : Kept → Outcome → KeptStep
+keptAll h o = record { answer = o .answer; runs = o .runs; kept = h }
+
+abbrev pub unrun : Answer → Outcome
+unrun answer = record { answer = answer; runs = 0 }
 
 abbrev pub keptReceiver : Kept → HeldReceiverStep → KeptStep
-keptReceiver h t = record { answer = t .answer; kept = record { session = h .session; receiver = t .receiver } }
+keptReceiver h t = record { answer = t .answer; runs = t .runs; kept = record { session = h .session; receiver = t .receiver } }
 
 abbrev pub keptSession : Kept → HeldStep → KeptStep
-keptSession h t = record { answer = t .answer; kept = record { session = t .session; receiver = h .receiver } }
+keptSession h t = record { answer = t .answer; runs = t .runs; kept = record { session = t .session; receiver = h .receiver } }
 
 -- by the number of a call: 10 seals a segment, 11 starts a receiver, 12 takes a segment, 14 writes a list, and any other is one on the session
 unfoldable pub byJob : {A : Type 0} → ℕ → A → A → A → A → A → A
@@ -34,7 +38,7 @@ keptCall k a m h out =
     (keptAll h (segmentCall a m out))
     (keptReceiver h (receiverCall a m))
     (keptReceiver h (takeCall a m (h .receiver) out))
-    (keptAll h (listCall a out))
+    (keptAll h (unrun (listCall a out)))
     (keptSession h (madeCall k a m (h .session) out))
 
 -- a start has no output

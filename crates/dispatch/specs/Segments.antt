@@ -5,9 +5,10 @@ use mathlib.Core.Bool.{Bool}
 use mathlib.Core.List.{List}
 use lib.Dec.{eqb}
 use Rattle.answers.specs.declared.Answer.{Answer}
+use Rattle.answers.specs.declared.Outcome.{Outcome}
 use Rattle.places.specs.declared.terms.Terms.{Terms}
 use Rattle.cutting.specs.declared.Waiting.{Waiting}
-use Rattle.segments.specs.Segments.{segmentAnswerAt, segmentOutAt}
+use Rattle.segments.specs.Segments.{segmentAnswerAt, segmentRunsAt, segmentOutAt}
 use Rattle.lists.specs.Written.{writeAnswer, writeOut}
 use Rattle.held.specs.declared.receiver.HeldReceiver.{HeldReceiver}
 use Rattle.held.specs.declared.receiver.HeldReceiverStep.{HeldReceiverStep}
@@ -26,8 +27,8 @@ module _ (a : Words) (m : List ℕ) where
       f (low (a .first)) (stretchOf 0 (a .third) m) (stretchOf (a .third) (a .fourth) m) (termsOf (a .second) (a .fifth) (a .sixth))
       (stretchOf (a .fourth) (a .seventh) m) (a .eighth) (flagOf (a .ninth)) (stretchOf (a .seventh) (a .tenth) m)
 
-  unfoldable pub segmentCall : List ℕ → Answer
-  segmentCall out = bySegment segmentAnswerAt out
+  unfoldable pub segmentCall : List ℕ → Outcome
+  segmentCall out = record { answer = bySegment segmentAnswerAt out; runs = bySegment segmentRunsAt out }
 
   unfoldable pub segmentCallOut : List ℕ → List ℕ
   segmentCallOut out = bySegment segmentOutAt out

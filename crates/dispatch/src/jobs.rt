@@ -7,13 +7,14 @@ use crate::low;
 use crate::stretch;
 use crate::terms;
 use answers::Answer;
+use answers::Outcome;
 use cutting::Waiting;
 use held::receiver::HeldReceiver;
 use held::receiver::HeldReceiverStep;
 
 // Seals a segment: width, rounds, key, nonce, job, revision, note, index, whether it is the last, body.
-pub fn segment(a: Words, memory: &[u8], out: &mut [u8]) -> Answer
-    ensures answer { λ r. ⌜ r ≡ segmentCall a (was memory) (was out) ⌝ }
+pub fn segment(a: Words, memory: &[u8], out: &mut [u8]) -> Outcome
+    ensures outcome { λ r. ⌜ r ≡ segmentCall a (was memory) (was out) ⌝ }
     ensures output { λ _. ⌜ now (out .exit) ≡ segmentCallOut a (was memory) (was out) ⌝ }
 {
     segments::seal(

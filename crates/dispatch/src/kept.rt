@@ -19,9 +19,10 @@ pub struct Kept {
     pub receiver: HeldReceiver,
 }
 
-// What a call answers, and what is kept then.
+// What a call answers, the runs of P that it reports, which are 0 of a call that reports none, and what is kept then.
 pub struct KeptStep {
     pub answer: Answer,
+    pub runs: u32,
     pub kept: Kept,
 }
 
@@ -31,8 +32,13 @@ pub fn call(k: usize, a: Words, memory: &[u8], kept: Kept, out: &mut [u8]) -> Ke
     ensures output { λ _. ⌜ now (out .exit) ≡ keptOut k a (was memory) kept (was out) ⌝ }
 {
     if k == 10 {
-        let answer = segment(a, memory, out);
-        return KeptStep { answer, kept };
+        let outcome = segment(a, memory, out);
+        let answer = outcome.answer;
+        return KeptStep {
+            answer,
+            runs: outcome.runs,
+            kept,
+        };
     }
     if k == 11 {
         return with_receiver(kept, receiver(a, memory));
@@ -43,7 +49,11 @@ pub fn call(k: usize, a: Words, memory: &[u8], kept: Kept, out: &mut [u8]) -> Ke
     }
     if k == 14 {
         let answer = list(a, out);
-        return KeptStep { answer, kept };
+        return KeptStep {
+            answer,
+            runs: 0,
+            kept,
+        };
     }
     let held = kept.session;
     with_session(kept, make(k, a, memory, held, out))
@@ -55,7 +65,11 @@ fn with_receiver(mut kept: Kept, step: HeldReceiverStep) -> KeptStep
     let answer = step.answer;
     let receiver = step.receiver;
     kept.receiver = receiver;
-    KeptStep { answer, kept }
+    KeptStep {
+        answer,
+        runs: step.runs,
+        kept,
+    }
 }
 
 fn with_session(mut kept: Kept, step: HeldStep) -> KeptStep
@@ -64,5 +78,9 @@ fn with_session(mut kept: Kept, step: HeldStep) -> KeptStep
     let answer = step.answer;
     let session = step.session;
     kept.session = session;
-    KeptStep { answer, kept }
+    KeptStep {
+        answer,
+        runs: step.runs,
+        kept,
+    }
 }

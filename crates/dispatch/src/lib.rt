@@ -1,8 +1,8 @@
 // The library's calls, their arguments in plain numbers: for programs that are given a call as data. A text is a stretch of one memory.
 ghost use mathlib.Core.Path.{_≡_};
 ghost use Rattle.norx.specs.Lent.{was};
-ghost use Rattle.dispatch.specs.Calls.{low as lowOf, stretchOf, partOf, editionOf, termsOf, labelOf, answerAt, outAt, oneCall, oneCallOut, startCall, pieceCall, pieceCallOut, closeCall, closeCallTag, standingOf, putCall, madeCall, madeOut, isCall, constantOf};
-use answers::Answer;
+ghost use Rattle.dispatch.specs.Calls.{low as lowOf, stretchOf, partOf, editionOf, termsOf, labelOf, outcomeAt, outAt, oneCall, oneCallOut, startCall, pieceCall, pieceCallOut, closeCall, closeCallTag, standingOf, putCall, madeCall, madeOut, isCall, constantOf};
+use answers::Outcome;
 use held::Held;
 use held::HeldStep;
 use places::Label;
@@ -79,7 +79,7 @@ fn one_call(opens: bool, a: Words, memory: &[u8], held: Held, out: &mut [u8]) ->
     ensures step { λ r. ⌜ r ≡ oneCall a (was memory) opens held (was out) ⌝ }
     ensures output { λ _. ⌜ now (out .exit) ≡ oneCallOut a (was memory) opens (was out) ⌝ }
 {
-    let answer = opened_or_sealed(
+    let outcome = opened_or_sealed(
         opens,
         low(a.first),
         low(a.second),
@@ -90,8 +90,10 @@ fn one_call(opens: bool, a: Words, memory: &[u8], held: Held, out: &mut [u8]) ->
         stretch(memory, a.sixth, a.seventh),
         out,
     );
+    let answer = outcome.answer;
     HeldStep {
         answer,
+        runs: outcome.runs,
         session: held,
     }
 }
@@ -107,8 +109,8 @@ fn opened_or_sealed(
     text: &[u8],
     trailer: &[u8],
     out: &mut [u8],
-) -> Answer
-    ensures answer { λ r. ⌜ r ≡ answerAt opens width rounds (was key) (was nonce) (was header) (was text) (was trailer) (was out) ⌝ }
+) -> Outcome
+    ensures outcome { λ r. ⌜ r ≡ outcomeAt opens width rounds (was key) (was nonce) (was header) (was text) (was trailer) (was out) ⌝ }
     ensures output { λ _. ⌜ now (out .exit) ≡ outAt opens width rounds (was key) (was nonce) (was header) (was text) (was trailer) (was out) ⌝ }
 {
     if opens {

@@ -10,7 +10,7 @@ use Rattle.places.specs.declared.terms.Terms.{Terms}
 use Rattle.places.specs.declared.Label.{Label}
 use Rattle.places.specs.declared.Place.{Place}
 use Rattle.places.specs.Places.{closedPlace}
-use Rattle.session.specs.Sessions.{Kind, startOf, pieceOf, pieceOut, closeOf, closeTag}
+use Rattle.session.specs.Sessions.{Kind, startOf, pieceOf, pieceOut, closeOf, closeRuns, closeTag}
 use Rattle.session32.specs.Kinds.{sealing32, checking32}
 use Rattle.session64.specs.Kinds.{sealing64, checking64}
 use Rattle.held.specs.declared.Held.{Held}
@@ -47,11 +47,21 @@ module _ (S : Side) where
   abbrev pub sessionOf : (K : Kind) → Held → K .Session
   sessionOf K h = K .make (h .place) (S .words h) (S .key h)
 
-  -- the step of that session, held
+  -- the step of that session, held; a start and a piece report no runs
   abbrev pub stepOf : (K : Kind) → Held → K .Step → HeldStep
   stepOf K h t =
       let s = K .next t in
-      record { answer = K .answer t; session = S .kept h (K .words s) (K .key s) (K .place s) }
+      record { answer = K .answer t; runs = 0; session = S .kept h (K .words s) (K .key s) (K .place s) }
+
+  -- and of a close, with the runs that it reports
+  abbrev pub closeStepOf : (K : Kind) → Held → K .Step → ℕ → HeldStep
+  closeStepOf K h t runs =
+      let s = K .next t in
+      record { answer = K .answer t; runs = runs; session = S .kept h (K .words s) (K .key s) (K .place s) }
+
+  -- the close of the session that is held
+  abbrev pub closedAt : (K : Kind) → Held → Edition → List ℕ → HeldStep
+  closedAt K h edition tag = closeStepOf K h (closeOf K (sessionOf K h) edition tag) (closeRuns K (sessionOf K h) edition tag)
 
   unfoldable pub startAt : Held → List ℕ → List ℕ → Terms → HeldStep
   startAt h key nonce T =
@@ -70,11 +80,7 @@ module _ (S : Side) where
 
   -- a checking session holds its tag to the one that is given, a sealing session writes it
   unfoldable pub closeAt : Held → Edition → List ℕ → List ℕ → HeldStep
-  closeAt h edition given tag =
-      cond
-      (h .check)
-      (stepOf (S .checking) h (closeOf (S .checking) (sessionOf (S .checking) h) edition given))
-      (stepOf (S .sealing) h (closeOf (S .sealing) (sessionOf (S .sealing) h) edition tag))
+  closeAt h edition given tag = cond (h .check) (closedAt (S .checking) h edition given) (closedAt (S .sealing) h edition tag)
 
   unfoldable pub closeTagAt : Held → Edition → List ℕ → List ℕ
   closeTagAt h edition tag = cond (h .check) tag (closeTag (S .sealing) (sessionOf (S .sealing) h) edition tag)

@@ -8,9 +8,11 @@ use Rattle.places.specs.declared.terms.Terms.{Terms}
 use Rattle.cutting.specs.declared.Waiting.{Waiting}
 use Rattle.segments.specs.declared.receiver32.Receiver.{Receiver as Receiver32}
 use Rattle.segments.specs.declared.receiver32.ReceiverStep.{ReceiverStep as Step32}
+use Rattle.segments.specs.declared.receiver32.ReceiverTake.{ReceiverTake as Take32}
 use Rattle.segments.specs.declared.receiver64.Receiver.{Receiver as Receiver64}
 use Rattle.segments.specs.declared.receiver64.ReceiverStep.{ReceiverStep as Step64}
-use Rattle.segments.specs.Receivers.{Receiving, noReceiving, startsAnswer, startsWith, takingAnswer, takingOut, afterTaking}
+use Rattle.segments.specs.declared.receiver64.ReceiverTake.{ReceiverTake as Take64}
+use Rattle.segments.specs.Receivers.{Receiving, noReceiving, startsAnswer, startsWith, takingAnswer, takingRuns, takingOut, afterTaking}
 use Rattle.segments.specs.Structs.{seen32, made32, seen64, made64}
 use Rattle.held.specs.declared.receiver.HeldReceiver.{HeldReceiver}
 use Rattle.held.specs.declared.receiver.HeldReceiverStep.{HeldReceiverStep}
@@ -22,12 +24,19 @@ withNarrow h r = record { wide = h .wide; narrow = r; broad = h .broad }
 abbrev pub withBroad : HeldReceiver → Receiver64 → HeldReceiver
 withBroad h r = record { wide = h .wide; narrow = h .narrow; broad = r }
 
--- the step of its receiver, held
+-- a start of its receiver, held, which reports no runs
 abbrev pub narrowStep : HeldReceiver → Step32 → HeldReceiverStep
-narrowStep h t = record { answer = t .answer; receiver = withNarrow h (t .receiver) }
+narrowStep h t = record { answer = t .answer; runs = 0; receiver = withNarrow h (t .receiver) }
 
 abbrev pub broadStep : HeldReceiver → Step64 → HeldReceiverStep
-broadStep h t = record { answer = t .answer; receiver = withBroad h (t .receiver) }
+broadStep h t = record { answer = t .answer; runs = 0; receiver = withBroad h (t .receiver) }
+
+-- a segment that it takes, held
+abbrev pub narrowTake : HeldReceiver → Take32 → HeldReceiverStep
+narrowTake h t = record { answer = t .answer; runs = t .runs; receiver = withNarrow h (t .receiver) }
+
+abbrev pub broadTake : HeldReceiver → Take64 → HeldReceiverStep
+broadTake h t = record { answer = t .answer; runs = t .runs; receiver = withBroad h (t .receiver) }
 
 -- ---- The calls, at the width that is held
 
@@ -49,8 +58,8 @@ heldTaken h note last text out =
     let narrow = seen32 (h .narrow) in
     cond
     (h .wide)
-    (broadStep h (record { answer = takingAnswer word64 broad note last text out; receiver = made64 (afterTaking word64 broad note last text out) }))
-    (narrowStep h (record { answer = takingAnswer word32 narrow note last text out; receiver = made32 (afterTaking word32 narrow note last text out) }))
+    (broadTake h (record { answer = takingAnswer word64 broad note last text out; runs = takingRuns word64 broad note last text out; receiver = made64 (afterTaking word64 broad note last text out) }))
+    (narrowTake h (record { answer = takingAnswer word32 narrow note last text out; runs = takingRuns word32 narrow note last text out; receiver = made32 (afterTaking word32 narrow note last text out) }))
 
 unfoldable pub heldTakenOut : HeldReceiver → List ℕ → Bool → List ℕ → List ℕ → List ℕ
 heldTakenOut h note last text out =

@@ -24,9 +24,10 @@ pub struct Held {
     pub place: Place,
 }
 
-// What a call answers, and the session to go on with.
+// What a call answers, the runs of P that a close reports, which are 0 of any other call, and the session to go on with.
 pub struct HeldStep {
     pub answer: Answer,
+    pub runs: u32,
     pub session: Held,
 }
 

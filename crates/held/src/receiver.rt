@@ -15,9 +15,10 @@ pub struct HeldReceiver {
     pub broad: receiver64::Receiver,
 }
 
-// What a call answers, and the receiver to go on with.
+// What a call answers, the runs of P that taking a segment reports, which are 0 of a start, and the receiver to go on with.
 pub struct HeldReceiverStep {
     pub answer: Answer,
+    pub runs: u32,
     pub receiver: HeldReceiver,
 }
 
@@ -47,6 +48,7 @@ impl HeldReceiver {
             held.broad = broad;
             HeldReceiverStep {
                 answer,
+                runs: 0,
                 receiver: held,
             }
         } else {
@@ -56,6 +58,7 @@ impl HeldReceiver {
             held.narrow = narrow;
             HeldReceiverStep {
                 answer,
+                runs: 0,
                 receiver: held,
             }
         }
@@ -80,6 +83,7 @@ impl HeldReceiver {
             self.broad = broad;
             HeldReceiverStep {
                 answer,
+                runs: step.runs,
                 receiver: self,
             }
         } else {
@@ -90,6 +94,7 @@ impl HeldReceiver {
             self.narrow = narrow;
             HeldReceiverStep {
                 answer,
+                runs: step.runs,
                 receiver: self,
             }
         }

@@ -2,7 +2,7 @@
 ghost use mathlib.Core.Path.{_≡_};
 ghost use Rattle.norx.specs.Lent.{was};
 ghost use Rattle.session32.specs.Kinds.{sealing32, checking32};
-ghost use Rattle.held.specs.Held.{side32, sessionOf, stepOf, startAt, pieceAt, pieceOutAt, closeAt, closeTagAt, wordAt};
+ghost use Rattle.held.specs.Held.{side32, sessionOf, stepOf, closeStepOf, startAt, pieceAt, pieceOutAt, closeAt, closeTagAt, wordAt};
 use crate::Held;
 use crate::HeldStep;
 use places::Label;
@@ -11,8 +11,10 @@ use places::terms::Edition;
 use places::terms::Terms;
 use rules::w32::Word;
 use session32::check::Checking;
+use session32::check::CheckingClose;
 use session32::check::CheckingStep;
 use session32::seal::Sealing;
+use session32::seal::SealingClose;
 use session32::seal::SealingStep;
 
 pub(crate) fn start(h: Held, key: &[u8], nonce: &[u8], terms: Terms) -> HeldStep
@@ -41,9 +43,9 @@ pub(crate) fn close(h: Held, edition: Edition, given: &[u8], tag: &mut [u8]) -> 
     ensures tag { λ _. ⌜ now (tag .exit) ≡ closeTagAt side32 h edition (was tag) ⌝ }
 {
     if h.check {
-        after_check(h, checking(h).close(edition, given))
+        after_check_close(h, checking(h).close(edition, given))
     } else {
-        after_seal(h, sealing(h).close(edition, tag))
+        after_seal_close(h, sealing(h).close(edition, tag))
     }
 }
 
@@ -118,7 +120,11 @@ fn after_seal(mut h: Held, step: SealingStep) -> HeldStep
     h.words32 = words;
     h.key32 = key;
     h.place = place;
-    HeldStep { answer, session: h }
+    HeldStep {
+        answer,
+        runs: 0,
+        session: h,
+    }
 }
 
 fn after_check(mut h: Held, step: CheckingStep) -> HeldStep
@@ -140,5 +146,37 @@ fn after_check(mut h: Held, step: CheckingStep) -> HeldStep
     h.words32 = words;
     h.key32 = key;
     h.place = place;
-    HeldStep { answer, session: h }
+    HeldStep {
+        answer,
+        runs: 0,
+        session: h,
+    }
+}
+
+fn after_seal_close(h: Held, close: SealingClose) -> HeldStep
+    ensures { λ r. ⌜ r ≡ closeStepOf side32 sealing32 h (record { answer = close .answer; session = close .session }) (close .runs) ⌝ }
+{
+    let answer = close.answer;
+    let session = close.session;
+    let step = after_seal(h, SealingStep { answer, session });
+    let held = step.session;
+    HeldStep {
+        answer,
+        runs: close.runs,
+        session: held,
+    }
+}
+
+fn after_check_close(h: Held, close: CheckingClose) -> HeldStep
+    ensures { λ r. ⌜ r ≡ closeStepOf side32 checking32 h (record { answer = close .answer; session = close .session }) (close .runs) ⌝ }
+{
+    let answer = close.answer;
+    let session = close.session;
+    let step = after_check(h, CheckingStep { answer, session });
+    let held = step.session;
+    HeldStep {
+        answer,
+        runs: close.runs,
+        session: held,
+    }
 }

@@ -6,6 +6,7 @@ use denote.Triple.Clauses.{AtExit}
 use contract.Lifetimes.{Lfts}
 use borrow.Fn.World.{ArgsD, ResD}
 use borrow.Fn.Kinds.{endedOf}
+use Rattle.jeczmilot.proofs.Outcomes.{one-pair}
 use Rattle.jeczmilot.proofs.Readings.{numbers-once}
 use Rattle.jeczmilot.proofs.norx_seal.{signature as signature-norx-seal}
 use Rattle.jeczmilot.proofs.norx_seal.Kinds as kinds-norx-seal
@@ -31,19 +32,19 @@ use Rattle.jeczmilot.proofs.norx_list_read.Reads.{Post as Post-norx-lis
 
 pub one-norx-seal : (κs : Lfts 6) (a : ArgsD signature-norx-seal κs) (r r′ : ResD signature-norx-seal κs) (s s′ : AtExit (endedOf 6 kinds-norx-seal.ps kinds-norx-seal.r) κs)
     → Post-norx-seal κs a r s → Post-norx-seal κs a r′ s′ → (r ≡ r′) × (now (s .1 .1 .1 .1 .1 .1 .1 .0) ≡ now (s′ .1 .1 .1 .1 .1 .1 .1 .0))
-one-norx-seal κs a r r′ s s′ p q = (p .0 ∙ sym (q .0), p .1 .0 ∙ sym (q .1 .0))
+one-norx-seal κs a r r′ s s′ p q = (one-pair (p .0 ∙ sym (q .0)) (p .1 .0 ∙ sym (q .1 .0)), p .1 .1 .0 ∙ sym (q .1 .1 .0))
 
 pub one-norx-open : (κs : Lfts 6) (a : ArgsD signature-norx-open κs) (r r′ : ResD signature-norx-open κs) (s s′ : AtExit (endedOf 6 kinds-norx-open.ps kinds-norx-open.r) κs)
     → Post-norx-open κs a r s → Post-norx-open κs a r′ s′ → (r ≡ r′) × (now (s .1 .1 .1 .1 .1 .1 .1 .0) ≡ now (s′ .1 .1 .1 .1 .1 .1 .1 .0))
-one-norx-open κs a r r′ s s′ p q = (p .0 ∙ sym (q .0), p .1 .0 ∙ sym (q .1 .0))
+one-norx-open κs a r r′ s s′ p q = (one-pair (p .0 ∙ sym (q .0)) (p .1 .0 ∙ sym (q .1 .0)), p .1 .1 .0 ∙ sym (q .1 .1 .0))
 
 pub one-norx-segment-seal : (κs : Lfts 5) (a : ArgsD signature-norx-segment-seal κs) (r r′ : ResD signature-norx-segment-seal κs) (s s′ : AtExit (endedOf 5 kinds-norx-segment-seal.ps kinds-norx-segment-seal.r) κs)
     → Post-norx-segment-seal κs a r s → Post-norx-segment-seal κs a r′ s′ → (r ≡ r′) × (now (s .1 .1 .1 .1 .1 .1 .1 .1 .1 .1 .0) ≡ now (s′ .1 .1 .1 .1 .1 .1 .1 .1 .1 .1 .0))
-one-norx-segment-seal κs a r r′ s s′ p q = (p .0 ∙ sym (q .0), p .1 ∙ sym (q .1))
+one-norx-segment-seal κs a r r′ s s′ p q = (one-pair (p .0 ∙ sym (q .0)) (p .1 .0 ∙ sym (q .1 .0)), p .1 .1 ∙ sym (q .1 .1))
 
 pub one-norx-segment-open : (κs : Lfts 5) (a : ArgsD signature-norx-segment-open κs) (r r′ : ResD signature-norx-segment-open κs) (s s′ : AtExit (endedOf 5 kinds-norx-segment-open.ps kinds-norx-segment-open.r) κs)
     → Post-norx-segment-open κs a r s → Post-norx-segment-open κs a r′ s′ → (r ≡ r′) × (now (s .1 .1 .1 .1 .1 .1 .1 .1 .1 .1 .1 .0) ≡ now (s′ .1 .1 .1 .1 .1 .1 .1 .1 .1 .1 .1 .0))
-one-norx-segment-open κs a r r′ s s′ p q = (p .0 ∙ sym (q .0), p .1 ∙ sym (q .1))
+one-norx-segment-open κs a r r′ s s′ p q = (one-pair (p .0 ∙ sym (q .0)) (p .1 .0 ∙ sym (q .1 .0)), p .1 .1 ∙ sym (q .1 .1))
 
 pub one-norx-list-length : (κs : Lfts 0) (a : ArgsD signature-norx-list-length κs) (r r′ : ResD signature-norx-list-length κs) (s s′ : AtExit (endedOf 0 kinds-norx-list-length.ps kinds-norx-list-length.r) κs)
     → Post-norx-list-length κs a r s → Post-norx-list-length κs a r′ s′ → r ≡ r′

@@ -2,19 +2,38 @@
 ghost use mathlib.Core.Path.{_≡_};
 ghost use Rattle.norx.specs.Lent.{was};
 ghost use Rattle.answers.specs.Answers.{numberOf};
-ghost use Rattle.sealing.specs.Widths.{sealAnswerAt, sealOutAt, openAnswerAt, openOutAt};
+ghost use Rattle.sealing.specs.Widths.{sealAnswerAt, sealRunsAt, sealOutAt, openAnswerAt, openRunsAt, openOutAt};
 ghost use Rattle.sealing.specs.Promises.{SealsAt, OpensAt};
-ghost use Rattle.segments.specs.Segments.{segmentAnswerAt, segmentOutAt, takeAnswerAt, takeOutAt};
+ghost use Rattle.segments.specs.Segments.{segmentAnswerAt, segmentRunsAt, segmentOutAt, takeAnswerAt, takeRunsAt, takeOutAt};
 ghost use Rattle.lists.specs.Written.{listLength, writeAnswer, writeOut};
-ghost use Rattle.jeczmilot.specs.Numbers.{yes, termsOf, waitingOf};
+ghost use Rattle.jeczmilot.specs.Numbers.{yes, termsOf, waitingOf, outcomeNumbers};
 ghost use Rattle.jeczmilot.specs.Readings.{ReadAsNumbers};
+use answers::Outcome;
 use answers::number;
 use cutting::Waiting;
 use lists::Reading;
 use places::terms::Edition;
 use places::terms::Terms;
 
-// Seals a body at the width given as a number; the answer is its number.
+// The number of an answer, and how many times P ran.
+#[repr(C)]
+pub struct OutcomeNumbers {
+    pub answer: u32,
+    pub runs: u32,
+}
+
+// An outcome, its answer turned into its number.
+fn numbers(outcome: Outcome) -> OutcomeNumbers
+    ensures { λ r. ⌜ r ≡ outcomeNumbers outcome ⌝ }
+{
+    let answer = outcome.answer;
+    OutcomeNumbers {
+        answer: number(answer),
+        runs: outcome.runs,
+    }
+}
+
+// Seals a body at the width given as a number.
 #[no_mangle]
 pub extern "C" fn norx_seal(
     width: u32,
@@ -25,15 +44,16 @@ pub extern "C" fn norx_seal(
     body: &[u8],
     trailer: &[u8],
     out: &mut [u8],
-) -> u32
-    ensures answer { λ r. ⌜ r ≡ numberOf (sealAnswerAt width rounds (was key) (was nonce) (was header) (was body) (was trailer) (was out)) ⌝ }
+) -> OutcomeNumbers
+    ensures answer { λ r. ⌜ r .answer ≡ numberOf (sealAnswerAt width rounds (was key) (was nonce) (was header) (was body) (was trailer) (was out)) ⌝ }
+    ensures runs { λ r. ⌜ r .runs ≡ sealRunsAt width rounds (was key) (was nonce) (was header) (was body) (was trailer) (was out) ⌝ }
     ensures output { λ _. ⌜ now (out .exit) ≡ sealOutAt width rounds (was key) (was nonce) (was header) (was body) (was trailer) (was out) ⌝ }
-    ensures promise { λ r. ⌜ SealsAt width rounds (was key) (was nonce) (was header) (was body) (was trailer) (was out) r (now (out .exit)) ⌝ }
+    ensures promise { λ r. ⌜ SealsAt width rounds (was key) (was nonce) (was header) (was body) (was trailer) (was out) (r .answer) (r .runs) (now (out .exit)) ⌝ }
 {
-    number(sealing::seal(width, rounds, key, nonce, header, body, trailer, out))
+    numbers(sealing::seal(width, rounds, key, nonce, header, body, trailer, out))
 }
 
-// Opens a sealed text at the width given as a number; the answer is its number.
+// Opens a sealed text at the width given as a number.
 #[no_mangle]
 pub extern "C" fn norx_open(
     width: u32,
@@ -44,12 +64,13 @@ pub extern "C" fn norx_open(
     sealed: &[u8],
     trailer: &[u8],
     out: &mut [u8],
-) -> u32
-    ensures answer { λ r. ⌜ r ≡ numberOf (openAnswerAt width rounds (was key) (was nonce) (was header) (was sealed) (was trailer) (was out)) ⌝ }
+) -> OutcomeNumbers
+    ensures answer { λ r. ⌜ r .answer ≡ numberOf (openAnswerAt width rounds (was key) (was nonce) (was header) (was sealed) (was trailer) (was out)) ⌝ }
+    ensures runs { λ r. ⌜ r .runs ≡ openRunsAt width rounds (was key) (was nonce) (was header) (was sealed) (was trailer) (was out) ⌝ }
     ensures output { λ _. ⌜ now (out .exit) ≡ openOutAt width rounds (was key) (was nonce) (was header) (was sealed) (was trailer) (was out) ⌝ }
-    ensures promise { λ r. ⌜ OpensAt width rounds (was key) (was nonce) (was header) (was sealed) (was trailer) (was out) r (now (out .exit)) ⌝ }
+    ensures promise { λ r. ⌜ OpensAt width rounds (was key) (was nonce) (was header) (was sealed) (was trailer) (was out) (r .answer) (r .runs) (now (out .exit)) ⌝ }
 {
-    number(sealing::open(width, rounds, key, nonce, header, sealed, trailer, out))
+    numbers(sealing::open(width, rounds, key, nonce, header, sealed, trailer, out))
 }
 
 // Rounds, job and revision put together.
@@ -70,7 +91,7 @@ fn waiting(index: u64, complete: u32) -> Waiting
     }
 }
 
-// Seals a segment of a job at the width given as a number; of last, 0 is no and every other number yes. The answer is its number.
+// Seals a segment of a job at the width given as a number; of last, 0 is no and every other number yes.
 #[no_mangle]
 pub extern "C" fn norx_segment_seal(
     width: u32,
@@ -84,15 +105,16 @@ pub extern "C" fn norx_segment_seal(
     last: u32,
     body: &[u8],
     out: &mut [u8],
-) -> u32
-    ensures answer { λ r. ⌜ r ≡ numberOf (segmentAnswerAt width (was key) (was nonce) (termsOf rounds job revision) (was note) index (yes last) (was body) (was out)) ⌝ }
+) -> OutcomeNumbers
+    ensures answer { λ r. ⌜ r .answer ≡ numberOf (segmentAnswerAt width (was key) (was nonce) (termsOf rounds job revision) (was note) index (yes last) (was body) (was out)) ⌝ }
+    ensures runs { λ r. ⌜ r .runs ≡ segmentRunsAt width (was key) (was nonce) (termsOf rounds job revision) (was note) index (yes last) (was body) (was out) ⌝ }
     ensures output { λ _. ⌜ now (out .exit) ≡ segmentOutAt width (was key) (was nonce) (termsOf rounds job revision) (was note) index (yes last) (was body) (was out) ⌝ }
 {
     let terms = terms(rounds, job, revision);
-    number(segments::seal(width, key, nonce, terms, note, index, last != 0, body, out))
+    numbers(segments::seal(width, key, nonce, terms, note, index, last != 0, body, out))
 }
 
-// Opens the segment of a job that is awaited, at the width given as a number; of complete and last, 0 is no and every other number yes. The answer is its number.
+// Opens the segment of a job that is awaited, at the width given as a number; of complete and last, 0 is no and every other number yes.
 #[no_mangle]
 pub extern "C" fn norx_segment_open(
     width: u32,
@@ -107,13 +129,14 @@ pub extern "C" fn norx_segment_open(
     last: u32,
     sealed: &[u8],
     out: &mut [u8],
-) -> u32
-    ensures answer { λ r. ⌜ r ≡ numberOf (takeAnswerAt width (was key) (was nonce) (termsOf rounds job revision) (was note) (waitingOf index complete) (yes last) (was sealed) (was out)) ⌝ }
+) -> OutcomeNumbers
+    ensures answer { λ r. ⌜ r .answer ≡ numberOf (takeAnswerAt width (was key) (was nonce) (termsOf rounds job revision) (was note) (waitingOf index complete) (yes last) (was sealed) (was out)) ⌝ }
+    ensures runs { λ r. ⌜ r .runs ≡ takeRunsAt width (was key) (was nonce) (termsOf rounds job revision) (was note) (waitingOf index complete) (yes last) (was sealed) (was out) ⌝ }
     ensures output { λ _. ⌜ now (out .exit) ≡ takeOutAt width (was key) (was nonce) (termsOf rounds job revision) (was note) (waitingOf index complete) (yes last) (was sealed) (was out) ⌝ }
 {
     let terms = terms(rounds, job, revision);
     let waiting = waiting(index, complete);
-    number(segments::open(
+    numbers(segments::open(
         width,
         key,
         nonce,

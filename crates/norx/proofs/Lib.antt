@@ -24,3 +24,4 @@ pub mod Steps
 pub mod Constants
 pub mod Table
 pub mod Shape
+pub mod Runs

@@ -6,3 +6,4 @@ pub mod Turns
 pub mod Rows
 pub mod Lent
 pub mod Texts
+pub mod Runs

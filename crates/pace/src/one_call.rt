@@ -29,7 +29,7 @@ fn row(width: u32) -> usize
 fn seal(line: Line, body: &[u8], sealed: &mut [u8]) -> Answer {
     let n = row(line.width);
     let header = front(EDITION);
-    sealing::seal(
+    let outcome = sealing::seal(
         line.width,
         line.rounds,
         &KEY[0..n],
@@ -38,7 +38,8 @@ fn seal(line: Line, body: &[u8], sealed: &mut [u8]) -> Answer {
         body,
         b"",
         sealed,
-    )
+    );
+    outcome.answer
 }
 
 // Opens a text whose body has n bytes.
@@ -48,7 +49,7 @@ fn open(line: Line, sealed: &[u8], n: usize, out: &mut [u8]) -> Answer {
     }
     let row = row(line.width);
     let header = front(EDITION);
-    sealing::open(
+    let outcome = sealing::open(
         line.width,
         line.rounds,
         &KEY[0..row],
@@ -57,5 +58,6 @@ fn open(line: Line, sealed: &[u8], n: usize, out: &mut [u8]) -> Answer {
         sealed,
         b"",
         &mut out[0..n],
-    )
+    );
+    outcome.answer
 }

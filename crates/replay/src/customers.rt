@@ -57,7 +57,7 @@ pub(crate) fn as_it_was() -> bool {
         &TRAILER,
         &mut sealed,
     );
-    let answer = sealing::w64::open(
+    let outcome = sealing::w64::open(
         ROUNDS,
         &KEY,
         &NONCE_7,
@@ -66,6 +66,7 @@ pub(crate) fn as_it_was() -> bool {
         &TRAILER,
         &mut ran,
     );
+    let answer = outcome.answer;
     say(b"  open it under the header of revision 3");
     say_answer(answer);
     say(b"And so the tool would run, for job 8:\n  ");

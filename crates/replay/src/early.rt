@@ -56,7 +56,8 @@ pub(crate) fn seal_old(own: &mut [u8], again: &mut [u8]) {
 // Seals a segment, of which the second is the last.
 fn seal_told(edition: Edition, nonce: &[u8], index: u64, body: &[u8], out: &mut [u8], name: &[u8]) {
     let terms = terms(edition);
-    let answer = seal(&KEY, nonce, terms, &NOTE, index, index == 1, body, out);
+    let outcome = seal(&KEY, nonce, terms, &NOTE, index, index == 1, body, out);
+    let answer = outcome.answer;
     say(name);
     say_answer(answer);
 }

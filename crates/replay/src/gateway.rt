@@ -10,7 +10,7 @@ use crate::told::say_part;
 use places::Part;
 use places::terms::Edition;
 use session64::check::Checking;
-use session64::check::CheckingStep;
+use session64::check::CheckingClose;
 
 pub(crate) fn start(nonce: &[u8], edition: Edition) -> Checking {
     let step = Checking::start(&KEY, nonce, terms(edition));
@@ -43,7 +43,7 @@ pub(crate) fn piece(
     step.session
 }
 
-pub(crate) fn close(s: Checking, edition: Edition, tag: &[u8], name: &[u8]) -> CheckingStep {
+pub(crate) fn close(s: Checking, edition: Edition, tag: &[u8], name: &[u8]) -> CheckingClose {
     let step = s.close(edition, tag);
     say(b"  close under ");
     say_edition(edition);

@@ -48,13 +48,13 @@ module _ (w : Width) (key nonce : ℕ) where
       and-true _ _ (eq-eqb key (rowBytes w) (e ∙ sym (row-long w))) (eq-eqb nonce (rowBytes w) (f ∙ sym (row-long w)))
 
 module _ (header body trailer : ℕ) where
-  parts-from : within header body trailer ≡ true → PartLimits header body trailer
+  pub parts-from : within header body trailer ≡ true → PartLimits header body trailer
   parts-from e =
       let first = both (leb header longestHeader && leb body longestBody) (leb trailer longestTrailer) e in
       let second = both (leb header longestHeader) (leb body longestBody) (first .0) in
       record { header-within = leb-true _ _ (second .0); body-within = leb-true _ _ (second .1); trailer-within = leb-true _ _ (first .1) }
 
-  parts-to : PartLimits header body trailer → within header body trailer ≡ true
+  pub parts-to : PartLimits header body trailer → within header body trailer ≡ true
   parts-to h = and-true _ _ (and-true _ _ (le-leb _ _ (h .header-within)) (le-leb _ _ (h .body-within))) (le-leb _ _ (h .trailer-within))
 
 -- ---- the links of a start, which are the first of every call

@@ -13,7 +13,7 @@ use answers::Answer;
 use answers::need;
 
 // Whether no part passes its limit.
-fn within(header: usize, body: usize, trailer: usize) -> bool
+pub(crate) fn within(header: usize, body: usize, trailer: usize) -> bool
     ensures { λ r. ⌜ r ≡ withinOf header body trailer ⌝ }
 {
     (header <= LONGEST_HEADER) & (body <= LONGEST_BODY) & (trailer <= LONGEST_TRAILER)

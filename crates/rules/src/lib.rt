@@ -1,8 +1,9 @@
-// The numbers that rule every call, each of them once; w32 and w64 have those of a width, and calls has what they decide.
+// The numbers that rule every call, each of them once; w32 and w64 have those of a width, calls has what they decide, and runs how much work a call is.
 ghost use mathlib.Core.Path.{_≡_};
 ghost use Rattle.rules.specs.Rules.{roundsOk, lengthsOk};
 
 pub mod calls;
+mod runs;
 pub mod w32;
 pub mod w64;
 

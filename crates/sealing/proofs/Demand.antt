@@ -1,25 +1,32 @@
--- Demands 1 and 2 of a call, from what its contract says of the answer and of the output.
+-- Demands 1 and 2 of a call, and what it reports of the runs of P, from what its contract says of the answer and of the output.
 -- Assumes nothing.
 use mathlib.Core.Path.{_≡_, refl, sym, ap, _∙_}
 use mathlib.Core.Bool.{true, false}
 use mathlib.Core.Logic.{_⊎_, inl, inr, ⊎-elim, _↔_, _≢_}
 use mathlib.Core.List.{List}
 use mathlib.Core.Option.{Option, none, some}
-use Prim.Native.Nat.{ℕ, _<_}
+use Prim.Native.Nat.{ℕ, _-_, _<_}
 use native.Mathlib.Omega.{arith}
 use borrow.Author.Tests.{ne-eqb}
 use lib.ListN.{length, replicate}
-use Rattle.norx.specs.Norx.{Width, rowBytes, tagBits, opened}
+use Rattle.norx.specs.Norx.{Width, rowBytes, tagBits, recovered, opened}
+use Rattle.norx.specs.Runs.{countedRuns, sealingRuns}
 use Rattle.norx.specs.Texts.{Bytes}
+use Rattle.norx.proofs.Runs.{counts-sealing, length-recovered}
 use Rattle.answers.specs.declared.Answer.{Answer}
-use Rattle.answers.specs.Answers.{numberOf, doneOf}
+use Rattle.answers.specs.declared.Outcome.{Outcome}
+use Rattle.answers.specs.Answers.{numberOf, doneOf, runsWith, reportedOf}
 use Rattle.answers.proofs.Tests.{either, cond-false}
 use Rattle.answers.proofs.Chain.{done-zero, zero-done}
+use Rattle.answers.proofs.Runs.{same-report}
 use Rattle.rules.specs.Rules.{tagBytes}
 use Rattle.rules.specs.Calls.{answerOf, outOf}
+use Rattle.rules.specs.Limits.{widthsLength, PartLimits}
+use Rattle.rules.specs.Runs.{runsWithin, sealRuns, openRuns, ReportsRuns}
 use Rattle.rules.specs.OneCall.{sealAnswer, sealOut, checked, openAnswer, openOut}
 use Rattle.rules.proofs.Lengths.{tag-fits}
-use Rattle.rules.proofs.Limits.{seal-limits, open-limits, seal-answers, open-answers}
+use Rattle.rules.proofs.Limits.{tag-long, seal-limits, open-limits, seal-answers, open-answers}
+use Rattle.rules.proofs.Work.{reports-runs, report-within}
 use Rattle.rules.proofs.OneCall.{handed-out, refused, seal-done, open-done}
 use Rattle.sealing.specs.Promises.{LeavesBytes, MaySeal, MayOpen, Seals, Opens}
 
@@ -41,12 +48,28 @@ module _ (w : Width) (l : ℕ) (key nonce header text trailer before : List ℕ)
   unfolding sealOut
   kept-sealing h = cond-false _ _ before (ne-eqb (numberOf sealing) 0 h)
 
-  seals : Seals w l key nonce header text trailer before (numberOf (sealAnswer w l key nonce header text trailer before)) (sealOut w l key nonce header text trailer before)
+  pub seal-within : (numberOf (sealAnswer w l key nonce header text trailer before) ≡ 0) ⊎ (numberOf (sealAnswer w l key nonce header text trailer before) ≡ 10)
+      → PartLimits (length header) (length text) (length trailer)
+  seal-within (inl e) = may-seal .0 e .parts
+  seal-within (inr e) = absurd (sealing-not 10 (omega arith) e)
+
+  reports-sealing :
+      ReportsRuns w (countedRuns w l (tagBits w) key nonce header text trailer) (length header) (length text) (length trailer)
+      (numberOf sealing) (sealRuns w l key nonce header text trailer before)
+  unfolding sealRuns
+  reports-sealing =
+      reports-runs w sealing _ (length header) (length text) (length trailer)
+      (counts-sealing w .by-formula l (tagBits w) key nonce header text trailer) seal-within
+
+  seals :
+      Seals w l key nonce header text trailer before (numberOf (sealAnswer w l key nonce header text trailer before))
+      (sealRuns w l key nonce header text trailer before) (sealOut w l key nonce header text trailer before)
   seals = record {
     as-defined = seal-done w l key nonce header text trailer before;
     only-there = may-seal .0;
     never-10 = sealing-not 10 (omega arith);
     leaves = record { kept = λ h g. kept-sealing h; zeroed = λ e. absurd (sealing-not 10 (omega arith) e) };
+    reports = reports-sealing;
   }
 
 -- ---- opening
@@ -86,7 +109,9 @@ module _ (w : Width) (l : ℕ) (key nonce header text trailer before : List ℕ)
   by-tag none = inr refl
   by-tag (some m) = inl refl
 
-  looked-at : ((numberOf opening ≡ 0) ⊎ (numberOf opening ≡ 10)) ↔ MayOpen w l key nonce header text trailer before
+  pub looked-at :
+      ((numberOf (openAnswer w l key nonce header text trailer before) ≡ 0) ⊎ (numberOf (openAnswer w l key nonce header text trailer before) ≡ 10))
+      ↔ MayOpen w l key nonce header text trailer before
   looked-at = (
     λ h. ⊎-elim may-where (λ e. absurd (never-there e h)) (either (doneOf checks)),
     λ may. rw (open-done w l key nonce header text trailer before may .0) (by-tag o),
@@ -118,7 +143,25 @@ module _ (w : Width) (l : ℕ) (key nonce header text trailer before : List ℕ)
       (λ (e : doneOf checks ≡ false). record { kept = λ h g. numbers-refused e .1; zeroed = λ z. absurd (never-there e (inr z)) })
       (either (doneOf checks))
 
-  opens : Bytes text → Opens w l key nonce header text trailer before (numberOf (openAnswer w l key nonce header text trailer before)) (openOut w l key nonce header text trailer before)
+  -- the number in the definition, by the lengths
+  counted-recovered :
+      countedRuns w l (tagBits w) key nonce header (recovered w l (tagBits w) key nonce header text) trailer
+      ≡ sealingRuns w (length header) (length text - tagBytes w) (length trailer)
+  counted-recovered =
+      counts-sealing w .by-formula l (tagBits w) key nonce header (recovered w l (tagBits w) key nonce header text) trailer
+      ∙ ap (λ (n : ℕ). sealingRuns w (length header) n (length trailer)) (length-recovered w l (tagBits w) key nonce header text)
+
+  reports-opening :
+      ReportsRuns w (countedRuns w l (tagBits w) key nonce header (recovered w l (tagBits w) key nonce header text) trailer)
+      (length header) (length text - widthsLength w) (length trailer) (numberOf opening) (openRuns w l key nonce header text trailer before)
+  unfolding openRuns
+  reports-opening =
+      rw (sym (tag-long w))
+      (reports-runs w opening _ (length header) (length text - tagBytes w) (length trailer) counted-recovered (λ h. rw (tag-long w) (looked-at .0 h .parts)))
+
+  pub opens : Bytes text
+      → Opens w l key nonce header text trailer before (numberOf (openAnswer w l key nonce header text trailer before))
+      (openRuns w l key nonce header text trailer before) (openOut w l key nonce header text trailer before)
   opens bytes = record {
     handed-out = λ may M.
         let done = open-done w l key nonce header text trailer before may in
@@ -128,17 +171,42 @@ module _ (w : Width) (l : ℕ) (key nonce header text trailer before : List ℕ)
         rw (done .0, done .1) (refused w l (tagBits w) (tag-fits w) key nonce header text trailer bytes (length before));
     looked-at = looked-at;
     leaves = leaves-bytes;
+    reports = reports-opening;
   }
 
 -- ---- a contract, from its equations
 
-module _ (w : Width) (l : ℕ) (key nonce header text trailer before : List ℕ) {r : Answer} {after : List ℕ} where
-  pub seal-ensures : r ≡ sealAnswer w l key nonce header text trailer before → after ≡ sealOut w l key nonce header text trailer before
-      → (r ≡ sealAnswer w l key nonce header text trailer before)
-      × ((after ≡ sealOut w l key nonce header text trailer before) × Seals w l key nonce header text trailer before (numberOf r) after)
-  seal-ensures e f = (e, (f, rw (e, f) (seals w l key nonce header text trailer before)))
+module _ (w : Width) (l : ℕ) (key nonce header text trailer before : List ℕ) {r : Outcome} {after : List ℕ} {n : ℕ} where
+  pub seal-ensures : {a : Answer} → a ≡ sealAnswer w l key nonce header text trailer before → n ≡ runsWithin w (length header) (length text) (length trailer)
+      → r ≡ reportedOf a n → after ≡ sealOut w l key nonce header text trailer before
+      → (r .answer ≡ sealAnswer w l key nonce header text trailer before)
+      × ((r .runs ≡ sealRuns w l key nonce header text trailer before)
+      × ((after ≡ sealOut w l key nonce header text trailer before)
+      × Seals w l key nonce header text trailer before (numberOf (r .answer)) (r .runs) after))
+  unfolding sealRuns
+  seal-ensures e f g h =
+      let answer : r .answer ≡ sealAnswer w l key nonce header text trailer before = ap (λ (o : Outcome). o .answer) g ∙ e in
+      let runs : r .runs ≡ sealRuns w l key nonce header text trailer before =
+      ap (λ (o : Outcome). o .runs) g ∙ ap (λ (x : Answer). runsWith x n) e
+      ∙ report-within w (sealAnswer w l key nonce header text trailer before) (length header) (length text) (length trailer) n f
+      (seal-within w l key nonce header text trailer before) in
+      (answer, (runs, (h, rw (answer, runs, h) (seals w l key nonce header text trailer before))))
 
-  pub open-ensures : Bytes text → r ≡ openAnswer w l key nonce header text trailer before → after ≡ openOut w l key nonce header text trailer before
-      → (r ≡ openAnswer w l key nonce header text trailer before)
-      × ((after ≡ openOut w l key nonce header text trailer before) × Opens w l key nonce header text trailer before (numberOf r) after)
-  open-ensures bytes e f = (e, (f, rw (e, f) (opens w l key nonce header text trailer before bytes)))
+  -- n is worked out from the output, which is as long as the message where it is reported
+  pub open-ensures : Bytes text → {a : Answer} → a ≡ openAnswer w l key nonce header text trailer before
+      → n ≡ runsWithin w (length header) (length before) (length trailer) → r ≡ reportedOf a n → after ≡ openOut w l key nonce header text trailer before
+      → (r .answer ≡ openAnswer w l key nonce header text trailer before)
+      × ((r .runs ≡ openRuns w l key nonce header text trailer before)
+      × ((after ≡ openOut w l key nonce header text trailer before)
+      × Opens w l key nonce header text trailer before (numberOf (r .answer)) (r .runs) after))
+  unfolding openRuns
+  open-ensures bytes e f g h =
+      let o : Answer = openAnswer w l key nonce header text trailer before in
+      let may : (numberOf o ≡ 0) ⊎ (numberOf o ≡ 10) → MayOpen w l key nonce header text trailer before = looked-at w l key nonce header text trailer before .0 in
+      let answer : r .answer ≡ openAnswer w l key nonce header text trailer before = ap (λ (o : Outcome). o .answer) g ∙ e in
+      let long : (numberOf o ≡ 0) ⊎ (numberOf o ≡ 10) → length before ≡ length text - tagBytes w = λ z. may z .exact ∙ ap (λ (k : ℕ). length text - k) (sym (tag-long w)) in
+      let runs : r .runs ≡ openRuns w l key nonce header text trailer before =
+      ap (λ (o : Outcome). o .runs) g ∙ ap (λ (x : Answer). runsWith x n) e
+      ∙ report-within w o (length header) (length before) (length trailer) n f (λ z. rw (may z .exact) (may z .parts))
+      ∙ same-report o _ _ (λ z. ap (λ (k : ℕ). sealingRuns w (length header) k (length trailer)) (long z)) in
+      (answer, (runs, (h, rw (answer, runs, h) (opens w l key nonce header text trailer before bytes))))

@@ -6,6 +6,7 @@ use denote.Triple.Clauses.{AtExit}
 use contract.Lifetimes.{Lfts}
 use borrow.Fn.World.{ArgsD, ResD}
 use borrow.Fn.Kinds.{endedOf}
+use Rattle.answers.proofs.Runs.{one-outcome}
 use Rattle.sealing.proofs.seal.{signature as signature-seal}
 use Rattle.sealing.proofs.seal.Kinds as kinds-seal
 use Rattle.sealing.proofs.seal.Reads.{Post as Post-seal}
@@ -39,27 +40,27 @@ use Rattle.sealing.proofs.body64.open.Reads.{Post as Post-body64-open}
 
 pub one-seal : (κs : Lfts 6) (a : ArgsD signature-seal κs) (r r′ : ResD signature-seal κs) (s s′ : AtExit (endedOf 6 kinds-seal.ps kinds-seal.r) κs)
     → Post-seal κs a r s → Post-seal κs a r′ s′ → (r ≡ r′) × (now (s .1 .1 .1 .1 .1 .1 .1 .0) ≡ now (s′ .1 .1 .1 .1 .1 .1 .1 .0))
-one-seal κs a r r′ s s′ p q = (p .0 ∙ sym (q .0), p .1 .0 ∙ sym (q .1 .0))
+one-seal κs a r r′ s s′ p q = (one-outcome (p .0 ∙ sym (q .0)) (p .1 .0 ∙ sym (q .1 .0)), p .1 .1 .0 ∙ sym (q .1 .1 .0))
 
 pub one-open : (κs : Lfts 6) (a : ArgsD signature-open κs) (r r′ : ResD signature-open κs) (s s′ : AtExit (endedOf 6 kinds-open.ps kinds-open.r) κs)
     → Post-open κs a r s → Post-open κs a r′ s′ → (r ≡ r′) × (now (s .1 .1 .1 .1 .1 .1 .1 .0) ≡ now (s′ .1 .1 .1 .1 .1 .1 .1 .0))
-one-open κs a r r′ s s′ p q = (p .0 ∙ sym (q .0), p .1 .0 ∙ sym (q .1 .0))
+one-open κs a r r′ s s′ p q = (one-outcome (p .0 ∙ sym (q .0)) (p .1 .0 ∙ sym (q .1 .0)), p .1 .1 .0 ∙ sym (q .1 .1 .0))
 
 pub one-seal-32 : (κs : Lfts 6) (a : ArgsD signature-w32-seal κs) (r r′ : ResD signature-w32-seal κs) (s s′ : AtExit (endedOf 6 kinds-w32-seal.ps kinds-w32-seal.r) κs)
     → Post-w32-seal κs a r s → Post-w32-seal κs a r′ s′ → (r ≡ r′) × (now (s .1 .1 .1 .1 .1 .1 .0) ≡ now (s′ .1 .1 .1 .1 .1 .1 .0))
-one-seal-32 κs a r r′ s s′ p q = (p .0 ∙ sym (q .0), p .1 .0 ∙ sym (q .1 .0))
+one-seal-32 κs a r r′ s s′ p q = (one-outcome (p .0 ∙ sym (q .0)) (p .1 .0 ∙ sym (q .1 .0)), p .1 .1 .0 ∙ sym (q .1 .1 .0))
 
 pub one-open-32 : (κs : Lfts 6) (a : ArgsD signature-w32-open κs) (r r′ : ResD signature-w32-open κs) (s s′ : AtExit (endedOf 6 kinds-w32-open.ps kinds-w32-open.r) κs)
     → Post-w32-open κs a r s → Post-w32-open κs a r′ s′ → (r ≡ r′) × (now (s .1 .1 .1 .1 .1 .1 .0) ≡ now (s′ .1 .1 .1 .1 .1 .1 .0))
-one-open-32 κs a r r′ s s′ p q = (p .0 ∙ sym (q .0), p .1 .0 ∙ sym (q .1 .0))
+one-open-32 κs a r r′ s s′ p q = (one-outcome (p .0 ∙ sym (q .0)) (p .1 .0 ∙ sym (q .1 .0)), p .1 .1 .0 ∙ sym (q .1 .1 .0))
 
 pub one-seal-64 : (κs : Lfts 6) (a : ArgsD signature-w64-seal κs) (r r′ : ResD signature-w64-seal κs) (s s′ : AtExit (endedOf 6 kinds-w64-seal.ps kinds-w64-seal.r) κs)
     → Post-w64-seal κs a r s → Post-w64-seal κs a r′ s′ → (r ≡ r′) × (now (s .1 .1 .1 .1 .1 .1 .0) ≡ now (s′ .1 .1 .1 .1 .1 .1 .0))
-one-seal-64 κs a r r′ s s′ p q = (p .0 ∙ sym (q .0), p .1 .0 ∙ sym (q .1 .0))
+one-seal-64 κs a r r′ s s′ p q = (one-outcome (p .0 ∙ sym (q .0)) (p .1 .0 ∙ sym (q .1 .0)), p .1 .1 .0 ∙ sym (q .1 .1 .0))
 
 pub one-open-64 : (κs : Lfts 6) (a : ArgsD signature-w64-open κs) (r r′ : ResD signature-w64-open κs) (s s′ : AtExit (endedOf 6 kinds-w64-open.ps kinds-w64-open.r) κs)
     → Post-w64-open κs a r s → Post-w64-open κs a r′ s′ → (r ≡ r′) × (now (s .1 .1 .1 .1 .1 .1 .0) ≡ now (s′ .1 .1 .1 .1 .1 .1 .0))
-one-open-64 κs a r r′ s s′ p q = (p .0 ∙ sym (q .0), p .1 .0 ∙ sym (q .1 .0))
+one-open-64 κs a r r′ s s′ p q = (one-outcome (p .0 ∙ sym (q .0)) (p .1 .0 ∙ sym (q .1 .0)), p .1 .1 .0 ∙ sym (q .1 .1 .0))
 
 pub one-body-seal-32 : (κs : Lfts 3) (a : ArgsD signature-body32-seal κs) (r r′ : ResD signature-body32-seal κs) (s s′ : AtExit (endedOf 3 kinds-body32-seal.ps kinds-body32-seal.r) κs)
     → Post-body32-seal κs a r s → Post-body32-seal κs a r′ s′ → now (s .1 .1 .1 .1 .1 .0) ≡ now (s′ .1 .1 .1 .1 .1 .0)

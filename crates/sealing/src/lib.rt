@@ -2,9 +2,10 @@
 ghost use mathlib.Core.Path.{_≡_};
 ghost use Rattle.norx.specs.Lent.{was};
 ghost use Rattle.answers.specs.Answers.{numberOf};
-ghost use Rattle.sealing.specs.Widths.{sealAnswerAt, sealOutAt, openAnswerAt, openOutAt};
+ghost use Rattle.sealing.specs.Widths.{sealAnswerAt, sealRunsAt, sealOutAt, openAnswerAt, openRunsAt, openOutAt};
 ghost use Rattle.sealing.specs.Promises.{SealsAt, OpensAt};
 use answers::Answer;
+use answers::Outcome;
 
 pub mod body32;
 pub mod body64;
@@ -21,10 +22,11 @@ pub fn seal(
     body: &[u8],
     trailer: &[u8],
     out: &mut [u8],
-) -> Answer
-    ensures answer { λ r. ⌜ r ≡ sealAnswerAt width rounds (was key) (was nonce) (was header) (was body) (was trailer) (was out) ⌝ }
+) -> Outcome
+    ensures answer { λ r. ⌜ r .answer ≡ sealAnswerAt width rounds (was key) (was nonce) (was header) (was body) (was trailer) (was out) ⌝ }
+    ensures runs { λ r. ⌜ r .runs ≡ sealRunsAt width rounds (was key) (was nonce) (was header) (was body) (was trailer) (was out) ⌝ }
     ensures output { λ _. ⌜ now (out .exit) ≡ sealOutAt width rounds (was key) (was nonce) (was header) (was body) (was trailer) (was out) ⌝ }
-    ensures promise { λ r. ⌜ SealsAt width rounds (was key) (was nonce) (was header) (was body) (was trailer) (was out) (numberOf r) (now (out .exit)) ⌝ }
+    ensures promise { λ r. ⌜ SealsAt width rounds (was key) (was nonce) (was header) (was body) (was trailer) (was out) (numberOf (r .answer)) (r .runs) (now (out .exit)) ⌝ }
 {
     if width == 32 {
         return w32::seal(rounds, key, nonce, header, body, trailer, out);
@@ -32,7 +34,10 @@ pub fn seal(
     if width == 64 {
         return w64::seal(rounds, key, nonce, header, body, trailer, out);
     }
-    Answer::WidthNumber
+    Outcome {
+        answer: Answer::WidthNumber,
+        runs: 0,
+    }
 }
 
 // Opens a sealed text at the width given as a number; 11, and nothing changed, where the number is not 32 or 64.
@@ -45,10 +50,11 @@ pub fn open(
     sealed: &[u8],
     trailer: &[u8],
     out: &mut [u8],
-) -> Answer
-    ensures answer { λ r. ⌜ r ≡ openAnswerAt width rounds (was key) (was nonce) (was header) (was sealed) (was trailer) (was out) ⌝ }
+) -> Outcome
+    ensures answer { λ r. ⌜ r .answer ≡ openAnswerAt width rounds (was key) (was nonce) (was header) (was sealed) (was trailer) (was out) ⌝ }
+    ensures runs { λ r. ⌜ r .runs ≡ openRunsAt width rounds (was key) (was nonce) (was header) (was sealed) (was trailer) (was out) ⌝ }
     ensures output { λ _. ⌜ now (out .exit) ≡ openOutAt width rounds (was key) (was nonce) (was header) (was sealed) (was trailer) (was out) ⌝ }
-    ensures promise { λ r. ⌜ OpensAt width rounds (was key) (was nonce) (was header) (was sealed) (was trailer) (was out) (numberOf r) (now (out .exit)) ⌝ }
+    ensures promise { λ r. ⌜ OpensAt width rounds (was key) (was nonce) (was header) (was sealed) (was trailer) (was out) (numberOf (r .answer)) (r .runs) (now (out .exit)) ⌝ }
 {
     if width == 32 {
         return w32::open(rounds, key, nonce, header, sealed, trailer, out);
@@ -56,5 +62,8 @@ pub fn open(
     if width == 64 {
         return w64::open(rounds, key, nonce, header, sealed, trailer, out);
     }
-    Answer::WidthNumber
+    Outcome {
+        answer: Answer::WidthNumber,
+        runs: 0,
+    }
 }

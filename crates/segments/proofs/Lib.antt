@@ -2,6 +2,7 @@ pub mod Checks
 pub mod States
 pub mod Receive
 pub mod Rules
+pub mod Runs
 pub mod Sealed
 pub mod Started
 pub mod Taking

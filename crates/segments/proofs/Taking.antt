@@ -5,33 +5,40 @@ use mathlib.Core.Bool.{Bool, true, false}
 use mathlib.Core.Logic.{_⊎_, inl, ⊎-elim, _≢_}
 use mathlib.Core.List.{List, []}
 use mathlib.Core.Option.{Option, none, some}
-use Prim.Native.Nat.{ℕ, _+_, _-_, _<_}
+use Prim.Native.Nat.{ℕ, _+_, _-_, _<_, _≤_}
 use native.Mathlib.Omega.{arith}
 use borrow.Author.Tests.{ne-eqb}
 use lib.Dec.{leb, eqb}
 use lib.ListN.{length, replicate}
-use Rattle.norx.specs.Norx.{Width, rowBytes, tagBits, opened}
+use Rattle.norx.specs.Norx.{Width, rowBytes, tagBits, recovered, opened}
+use Rattle.norx.specs.Front.{frontBytes}
+use Rattle.norx.specs.Runs.{countedRuns, sealingRuns}
 use Rattle.norx.specs.Texts.{Bytes, SealsTo}
 use Rattle.norx.proofs.Opening.{length-sealed}
+use Rattle.norx.proofs.Runs.{counts-sealing, length-recovered}
 use Rattle.answers.specs.declared.Answer.{Answer}
 use Rattle.answers.specs.declared.Answer.the-variants.{Done, KeyLength, RoundsNumber, TagLength, OverLimit, OutputLength, SegmentLength, AfterLast}
-use Rattle.answers.specs.Answers.{numberOf, doneOf, needOf}
+use Rattle.answers.specs.Answers.{numberOf, doneOf, needOf, runsWith}
 use Rattle.answers.proofs.Tests.{either, cond-true, cond-false}
 use Rattle.answers.proofs.Chain.{zero-done, link-not, both}
+use Rattle.answers.proofs.Runs.{same-report}
 use Rattle.rules.specs.Rules.{within, roundsOk, lengthsOk, tagBytes}
 use Rattle.rules.specs.Limits.{widthsLength}
 use Rattle.rules.specs.Calls.{openChecks, answerOf}
 use Rattle.rules.specs.OneCall.{checked, openAnswer, openOut}
+use Rattle.rules.specs.Runs.{runsWithin, openRuns, ReportsRuns}
 use Rattle.rules.proofs.Limits.{tag-long}
 use Rattle.rules.proofs.Lengths.{tag-fits}
 use Rattle.cutting.specs.Cutting.{segmentOk, sealedOk, takeLinks}
 use Rattle.sealing.specs.Promises.{LeavesBytes, MayOpen, Opens}
-use Rattle.sealing.proofs.Demand.{opening-not, open-ensures}
+use Rattle.sealing.proofs.Demand.{looked-at, opening-not, opens as one-opens}
 use Rattle.segments.specs.Rule.{Rule, JobLimits, SealedRule}
-use Rattle.segments.specs.Segments.{segmentNonce, segmentHeader, segmentAnswer, takeAnswer, takeOut}
-use Rattle.segments.specs.Receivers.{Receiving, takingAnswer, takingOut}
+use Rattle.segments.specs.Segments.{segmentNonce, segmentHeader, segmentAnswer, takeAnswer, takeRuns, takeOut}
+use Rattle.segments.specs.Receivers.{Receiving, takingAnswer, takingRuns, takingOut}
+use Rattle.segments.specs.Runs.{mostSegmentRuns}
 use Rattle.segments.specs.Promises.{GivenFor, TakesSegment}
 use Rattle.segments.proofs.Checks.{segment-sealed}
+use Rattle.segments.proofs.Runs.{reports-code, reports-segment, segment-at-most}
 use Rattle.segments.proofs.Receive.{taking-next, taking-same}
 use Rattle.segments.proofs.Rules.{rule-below, sealed-from, sealed-to, one-opening, job-of-opening}
 use Rattle.segments.proofs.Sealed.{seals-segment}
@@ -90,6 +97,47 @@ module _ (w : Width) (R : Receiving) (note : List ℕ) (last : Bool) (text out :
   unfolding takeAnswer takeOut takeLinks needOf
   as-one-call e f = (rw (e, f) refl, rw (e, f) refl)
 
+  ways : {A : Type 0} → (R .waiting .complete ≡ true → A) → (R .waiting .complete ≡ false → ok ≡ false → A) → (R .waiting .complete ≡ false → ok ≡ true → A) → A
+  ways f g h = ⊎-elim f (λ (e : R .waiting .complete ≡ false). ⊎-elim (h e) (g e) (either ok)) (either (R .waiting .complete))
+
+  -- ---- the runs of P
+
+  -- what is known where runs are reported
+  small : (numberOf answer ≡ 0) ⊎ (numberOf answer ≡ 10) → (length note ≤ 65520) × ((length text - tagBytes w ≤ 65536) × (length out ≡ length text - tagBytes w))
+  small h =
+      ways (λ e. let n : numberOf answer ≡ 14 = ap numberOf (complete-14 e .0) in absurd (⊎-elim (λ z. omega arith) (λ z. omega arith) h))
+      (λ e f. let n : numberOf answer ≡ 13 = ap numberOf (wrong-13 e f .0) in absurd (⊎-elim (λ z. omega arith) (λ z. omega arith) h))
+      (λ e f.
+      let limits = looked-at w l (R .key) own header text [] out .0 (rw (sym (as-one-call e f .0)) h) in
+      let rule = rule-below i last (length text - widthsLength w) (sealed-from w i last (length text) f .1) in
+      (job-of-opening w (R .key) (R .nonce) (R .terms) note i last (length text) (length out) limits .0 .note-within, rw (tag-long w) (rule, limits .exact)))
+
+  -- what code reports, from what it works out
+  pub take-reports : {a : Answer} {n m : ℕ} → a ≡ takingAnswer w R note last text out → n ≡ runsWithin w (frontBytes + length note) (length out) 0
+      → m ≡ runsWith a n → m ≡ takingRuns w R note last text out
+  unfolding takeRuns
+  take-reports {a} {n} ea en em =
+      em ∙ ap (λ (x : Answer). runsWith x n) ea
+      ∙ reports-code w (R .terms) note answer (length out) (λ h. let k = small h in (k .0, omega (arith, k .1 .0, k .1 .1))) n en
+      ∙ same-report answer _ _ (λ h. ap (λ (k : ℕ). sealingRuns w (length header) k 0) (small h .1 .1))
+
+  counted : countedRuns w l (tagBits w) (R .key) own header (recovered w l (tagBits w) (R .key) own header text) [] ≡ sealingRuns w (length header) (length text - tagBytes w) 0
+  counted =
+      counts-sealing w .by-formula l (tagBits w) (R .key) own header (recovered w l (tagBits w) (R .key) own header text) []
+      ∙ ap (λ (k : ℕ). sealingRuns w (length header) k 0) (length-recovered w l (tagBits w) (R .key) own header text)
+
+  reported :
+      ReportsRuns w (countedRuns w l (tagBits w) (R .key) own header (recovered w l (tagBits w) (R .key) own header text) []) (16 + length note)
+      (length text - widthsLength w) 0 (numberOf answer) (takingRuns w R note last text out)
+  unfolding takeRuns
+  reported = rw (sym (tag-long w)) (reports-segment w (R .terms) note answer (length text - tagBytes w) (λ h. (small h .0, small h .1 .0)) _ counted)
+
+  most : takingRuns w R note last text out ≤ mostSegmentRuns w
+  unfolding takeRuns
+  most = segment-at-most w (R .terms) note answer (length text - tagBytes w) (λ h. (small h .0, small h .1 .0))
+
+  -- ---- 3 is never answered
+
   one-not-3 : ok ≡ true → numberOf one ≢ 3
   unfolding openAnswer sealedOk
   one-not-3 e z =
@@ -108,8 +156,8 @@ module _ (w : Width) (R : Receiving) (note : List ℕ) (last : Bool) (text out :
   -- ---- what is handed out is what sealing gives
 
   module _ (bytes : Bytes text) where
-    opens : Opens w l (R .key) own header text [] out (numberOf one) (openOut w l (R .key) own header text [] out)
-    opens = open-ensures w l (R .key) own header text [] out bytes refl refl .1 .1
+    opens : Opens w l (R .key) own header text [] out (numberOf one) (openRuns w l (R .key) own header text [] out) (openOut w l (R .key) own header text [] out)
+    opens = one-opens w l (R .key) own header text [] out bytes
 
     abbrev To : List ℕ → Type 0
     To M = SealsTo w l (tagBits w) (R .key) own header [] text M
@@ -175,9 +223,6 @@ module _ (w : Width) (R : Receiving) (note : List ℕ) (last : Bool) (text out :
 
     -- ---- the other answers
 
-    ways : {A : Type 0} → (R .waiting .complete ≡ true → A) → (R .waiting .complete ≡ false → ok ≡ false → A) → (R .waiting .complete ≡ false → ok ≡ true → A) → A
-    ways f g h = ⊎-elim f (λ (e : R .waiting .complete ≡ false). ⊎-elim (h e) (g e) (either ok)) (either (R .waiting .complete))
-
     is-14 : numberOf answer ≡ 14 → R .waiting .complete ≡ true
     is-14 z =
         ways (λ e. e) (λ e f. let n : numberOf answer ≡ 13 = ap numberOf (wrong-13 e f .0) in absurd (omega arith))
@@ -214,6 +259,8 @@ module _ (w : Width) (R : Receiving) (note : List ℕ) (last : Bool) (text out :
       wrong-length = (is-13, gives-13);
       never-3 = never-3;
       leaves = leaves-bytes;
+      reports = reported;
+      at-most = most;
       goes-on = λ z. taking-next w R note last text out (zero-done answer z);
       stays = λ h. taking-same w R note last text out (ne-eqb (numberOf answer) 0 h);
     }

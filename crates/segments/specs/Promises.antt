@@ -1,21 +1,24 @@
 -- What is promised of sealing one segment, of starting a receiver and of taking one segment, in numbers and bytes, over the width.
 -- Assumes nothing.
-use Prim.Native.Nat.{ℕ, _+_}
+use Prim.Native.Nat.{ℕ, _+_, _-_, _≤_}
 use mathlib.Core.Path.{_≡_}
 use mathlib.Core.Logic.{_↔_, _≢_}
 use mathlib.Core.Bool.{Bool, true, false}
 use mathlib.Core.List.{List, []}
 use lib.ListN.{length, replicate}
-use Rattle.norx.specs.Norx.{Width, tagBits, sealed}
+use Rattle.norx.specs.Norx.{Width, tagBits, sealed, recovered}
+use Rattle.norx.specs.Runs.{countedRuns}
 use Rattle.norx.specs.Texts.{Bytes}
 use Rattle.answers.specs.Answers.{numberOf}
 use Rattle.rules.specs.Limits.{widthsLength}
+use Rattle.rules.specs.Runs.{ReportsRuns}
 use Rattle.places.specs.declared.terms.Terms.{Terms}
 use Rattle.cutting.specs.Cutting.{waitingFirst}
 use Rattle.sealing.specs.Promises.{LeavesBytes}
 use Rattle.segments.specs.Rule.{Rule, JobLimits, SealedRule}
-use Rattle.segments.specs.Segments.{segmentNonce, segmentHeader, segmentAnswer, segmentOut}
-use Rattle.segments.specs.Receivers.{Receiving, noReceiving, startsAnswer, startsWith, takingAnswer, takingOut, afterTaking}
+use Rattle.segments.specs.Runs.{mostSegmentRuns}
+use Rattle.segments.specs.Segments.{segmentNonce, segmentHeader, segmentAnswer, segmentRuns, segmentOut}
+use Rattle.segments.specs.Receivers.{Receiving, noReceiving, startsAnswer, startsWith, takingAnswer, takingRuns, takingOut, afterTaking}
 
 module _ (w : Width) (key nonce : List ℕ) (T : Terms) (note : List ℕ) (i : ℕ) (last : Bool) where
   abbrev pub InLimits : Type 0
@@ -41,6 +44,11 @@ module _ (w : Width) (key nonce : List ℕ) (T : Terms) (note : List ℕ) (i : �
     -- and 13 exactly where the rule is not kept
     pub wrong-length : (numberOf (segmentAnswer w key nonce T note i last text out) ≡ 13) ↔ (Rule i last (length text) → ⊥)
     pub kept : numberOf (segmentAnswer w key nonce T note i last text out) ≢ 0 → segmentOut w key nonce T note i last text out ≡ out
+    -- P ran as often as in the definition, with the 16 bytes in front of the note, and never more often than the largest segment asks
+    pub reports :
+        ReportsRuns w (countedRuns w (T .rounds) (tagBits w) key (segmentNonce nonce i last) (segmentHeader T note) text []) (16 + length note) (length text) 0
+        (numberOf (segmentAnswer w key nonce T note i last text out)) (segmentRuns w key nonce T note i last text out)
+    pub at-most : segmentRuns w key nonce T note i last text out ≤ mostSegmentRuns w
 
 -- ---- Starting a receiver
 
@@ -76,6 +84,13 @@ module _ (w : Width) (R : Receiving) (note : List ℕ) (last : Bool) (text out :
     pub never-3 : takingNumber ≢ 3
     -- an answer that is neither 0 nor 10 leaves every byte as it was, and 10 leaves zeros
     pub leaves : LeavesBytes out takingNumber (takingOut w R note last text out)
+    -- P ran as often as in sealing the message that the text would be of, with the 16 bytes in front of the note
+    pub reports :
+        ReportsRuns w
+        (countedRuns w (R .terms .rounds) (tagBits w) (R .key) (segmentNonce (R .nonce) (R .waiting .index) last) (segmentHeader (R .terms) note)
+        (recovered w (R .terms .rounds) (tagBits w) (R .key) (segmentNonce (R .nonce) (R .waiting .index) last) (segmentHeader (R .terms) note) text) [])
+        (16 + length note) (length text - widthsLength w) 0 takingNumber (takingRuns w R note last text out)
+    pub at-most : takingRuns w R note last text out ≤ mostSegmentRuns w
     -- only 0 moves the receiver: to the next index, and complete exactly if the segment was flagged last
     pub goes-on : takingNumber ≡ 0
         → afterTaking w R note last text out ≡ record { key = R .key; nonce = R .nonce; terms = R .terms; waiting = record { index = R .waiting .index + 1; complete = last } }

@@ -12,7 +12,7 @@ use Rattle.places.specs.Terms.{noTerms}
 use Rattle.places.specs.Places.{startAnswer}
 use Rattle.cutting.specs.declared.Waiting.{Waiting}
 use Rattle.cutting.specs.Cutting.{waitingFirst, waitingNext}
-use Rattle.segments.specs.Segments.{takeAnswer, takeOut}
+use Rattle.segments.specs.Segments.{takeAnswer, takeRuns, takeOut}
 
 pub record Receiving : Type 0 where
   pub key : List ℕ
@@ -32,9 +32,12 @@ module _ (w : Width) where
   unfoldable pub startsWith : List ℕ → List ℕ → Terms → Receiving
   startsWith key nonce T = cond (doneOf (startsAnswer key nonce T)) (record { key = key; nonce = nonce; terms = T; waiting = waitingFirst }) (noReceiving w)
 
-  -- what taking a segment answers, leaves in the output, and makes of the receiver
+  -- what taking a segment answers, reports, leaves in the output, and makes of the receiver
   abbrev pub takingAnswer : Receiving → List ℕ → Bool → List ℕ → List ℕ → Answer
   takingAnswer R note last text out = takeAnswer w (R .key) (R .nonce) (R .terms) note (R .waiting) last text out
+
+  abbrev pub takingRuns : Receiving → List ℕ → Bool → List ℕ → List ℕ → ℕ
+  takingRuns R note last text out = takeRuns w (R .key) (R .nonce) (R .terms) note (R .waiting) last text out
 
   abbrev pub takingOut : Receiving → List ℕ → Bool → List ℕ → List ℕ → List ℕ
   takingOut R note last text out = takeOut w (R .key) (R .nonce) (R .terms) note (R .waiting) last text out

@@ -7,8 +7,9 @@ ghost use Rattle.norx.specs.Lent.{was};
 ghost use Rattle.answers.specs.Answers.{numberOf};
 ghost use Rattle.rules.specs.Rules.{mostSegments};
 ghost use Rattle.cutting.specs.Cutting.{waitingNext};
-ghost use Rattle.segments.specs.Segments.{segmentAnswerAt, segmentOutAt, takeAnswerAt, takeOutAt};
+ghost use Rattle.segments.specs.Segments.{segmentAnswerAt, segmentRunsAt, segmentOutAt, takeAnswerAt, takeRunsAt, takeOutAt};
 use answers::Answer;
+use answers::Outcome;
 use answers::number;
 use cutting::Waiting;
 use places::terms::Terms;
@@ -55,8 +56,9 @@ pub fn seal(
     last: bool,
     body: &[u8],
     out: &mut [u8],
-) -> Answer
-    ensures answer { λ r. ⌜ r ≡ segmentAnswerAt width (was key) (was nonce) terms (was note) index last (was body) (was out) ⌝ }
+) -> Outcome
+    ensures answer { λ r. ⌜ r .answer ≡ segmentAnswerAt width (was key) (was nonce) terms (was note) index last (was body) (was out) ⌝ }
+    ensures runs { λ r. ⌜ r .runs ≡ segmentRunsAt width (was key) (was nonce) terms (was note) index last (was body) (was out) ⌝ }
     ensures output { λ _. ⌜ now (out .exit) ≡ segmentOutAt width (was key) (was nonce) terms (was note) index last (was body) (was out) ⌝ }
 {
     if width == 32 {
@@ -65,7 +67,10 @@ pub fn seal(
     if width == 64 {
         return w64::seal(key, nonce, terms, note, index, last, body, out);
     }
-    Answer::WidthNumber
+    Outcome {
+        answer: Answer::WidthNumber,
+        runs: 0,
+    }
 }
 
 // Opens the segment that a receiver waits for, at the width given as a number; 11, and nothing changed, where the number is not 32 or 64.
@@ -79,8 +84,9 @@ pub fn open(
     last: bool,
     sealed: &[u8],
     out: &mut [u8],
-) -> Answer
-    ensures answer { λ r. ⌜ r ≡ takeAnswerAt width (was key) (was nonce) terms (was note) waiting last (was sealed) (was out) ⌝ }
+) -> Outcome
+    ensures answer { λ r. ⌜ r .answer ≡ takeAnswerAt width (was key) (was nonce) terms (was note) waiting last (was sealed) (was out) ⌝ }
+    ensures runs { λ r. ⌜ r .runs ≡ takeRunsAt width (was key) (was nonce) terms (was note) waiting last (was sealed) (was out) ⌝ }
     ensures output { λ _. ⌜ now (out .exit) ≡ takeOutAt width (was key) (was nonce) terms (was note) waiting last (was sealed) (was out) ⌝ }
 {
     if width == 32 {
@@ -89,5 +95,8 @@ pub fn open(
     if width == 64 {
         return w64::open(key, nonce, terms, note, waiting, last, sealed, out);
     }
-    Answer::WidthNumber
+    Outcome {
+        answer: Answer::WidthNumber,
+        runs: 0,
+    }
 }

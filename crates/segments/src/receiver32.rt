@@ -5,7 +5,7 @@ ghost use lib.ListN.{length};
 ghost use Rattle.norx.specs.Lent.{was};
 ghost use Rattle.norx.specs.Norx.{word32, rowBytes};
 ghost use Rattle.cutting.specs.Cutting.{waitingFirst};
-ghost use Rattle.segments.specs.Receivers.{noReceiving, startsAnswer, startsWith, takingAnswer, takingOut, afterTaking};
+ghost use Rattle.segments.specs.Receivers.{noReceiving, startsAnswer, startsWith, takingAnswer, takingRuns, takingOut, afterTaking};
 ghost use Rattle.segments.specs.Structs.{seen32, made32};
 use super::w32::open;
 use crate::next;
@@ -26,9 +26,16 @@ pub struct Receiver {
     pub waiting: Waiting,
 }
 
-// What a call answers, and the receiver to go on with.
+// What a start answers, and the receiver to go on with.
 pub struct ReceiverStep {
     pub answer: Answer,
+    pub receiver: Receiver,
+}
+
+// What taking a segment answers, how many times P ran, and the receiver to go on with.
+pub struct ReceiverTake {
+    pub answer: Answer,
+    pub runs: u32,
     pub receiver: Receiver,
 }
 
@@ -54,18 +61,20 @@ impl Receiver {
     }
 
     // Takes the segment that it waits for, and then waits for the next; or refuses it, and waits for the same.
-    pub fn take(self, note: &[u8], last: bool, sealed: &[u8], out: &mut [u8]) -> ReceiverStep
-        ensures step { λ r. ⌜ r ≡ record { answer = takingAnswer word32 (seen32 self) (was note) last (was sealed) (was out); receiver = made32 (afterTaking word32 (seen32 self) (was note) last (was sealed) (was out)) } ⌝ }
+    pub fn take(self, note: &[u8], last: bool, sealed: &[u8], out: &mut [u8]) -> ReceiverTake
+        ensures step { λ r. ⌜ r ≡ record { answer = takingAnswer word32 (seen32 self) (was note) last (was sealed) (was out); runs = takingRuns word32 (seen32 self) (was note) last (was sealed) (was out); receiver = made32 (afterTaking word32 (seen32 self) (was note) last (was sealed) (was out)) } ⌝ }
         ensures output { λ _. ⌜ now (out .exit) ≡ takingOut word32 (seen32 self) (was note) last (was sealed) (was out) ⌝ }
     {
         let key = self.key;
         let nonce = self.nonce;
         let terms = self.terms;
         let waiting = self.waiting;
-        let answer = open(&key, &nonce, terms, note, waiting, last, sealed, out);
+        let outcome = open(&key, &nonce, terms, note, waiting, last, sealed, out);
+        let answer = outcome.answer;
         let waiting = next(waiting, answer, last);
-        ReceiverStep {
+        ReceiverTake {
             answer,
+            runs: outcome.runs,
             receiver: Receiver {
                 key,
                 nonce,

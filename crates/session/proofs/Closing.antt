@@ -1,4 +1,4 @@
--- The close of a session that was started, behind any pieces: it is not refused exactly under its own edition with a tag of the right length, and its tag is one sealing's.
+-- The close of a session that was started, behind any pieces: it is not refused exactly under its own edition with a tag of the right length, its tag is one sealing's, and so are the runs that it reports.
 -- Assumes nothing.
 use mathlib.Core.Path.{_≡_, sym, ap, ap₂, _∙_}
 use mathlib.Core.Bool.{true}
@@ -8,9 +8,11 @@ use Prim.Native.Nat.{ℕ, _/_}
 use lib.ListN.{length}
 use Rattle.norx.proofs.Bytes.{Bytes}
 use Rattle.norx.specs.Norx.{rowOf}
+use Rattle.norx.specs.Runs.{sealingRuns}
 use Rattle.answers.specs.declared.Answer.the-variants.{Done}
 use Rattle.answers.specs.Answers.{numberOf, doneOf}
 use Rattle.answers.proofs.Tests.{cond-true}
+use Rattle.answers.proofs.Runs.{reported-with}
 use Rattle.rules.specs.Limits.{widthsLength}
 use Rattle.rules.proofs.Limits.{tag-long}
 use Rattle.places.specs.declared.terms.Edition.{Edition}
@@ -20,10 +22,11 @@ use Rattle.places.specs.declared.Part.the-variants.{Note, Body, Trailer}
 use Rattle.places.specs.declared.Place.{Place}
 use Rattle.places.specs.Places.{closeAnswer}
 use Rattle.places.proofs.Accepts.{closable, closable-own, sound-closes}
-use Rattle.session.specs.Sessions.{verdictOf, Kind, closedOf, stateOf, tagLength, tagAt, ownTag, closeAnswerOf, closeOf}
-use Rattle.session.specs.Offered.{Piece, Close, heldBy, joined}
+use Rattle.session.specs.Sessions.{placeRuns, verdictOf, Kind, closedOf, stateOf, tagLength, tagAt, ownTag, closeAnswerOf, closeOf, closeRuns}
+use Rattle.session.specs.Offered.{Piece, Close, headerOf, heldBy, joined}
 use Rattle.session.specs.Promises.{Started}
 use Rattle.session.proofs.Refused.{Lawful, closeTo, verdict-number}
+use Rattle.session.proofs.Joining.{header-long}
 use Rattle.session.proofs.Held.{place-held, state-held}
 use Rattle.session.proofs.Whole.{tagAsOne, broughtBody, tag-whole}
 use Rattle.session.proofs.Begun.{bytes-joined, afterStart, acceptedFrom, noteOf, bodyOf, trailerOf, partOf, placeOf, session-is, stays-sound}
@@ -88,3 +91,15 @@ module _ (K : Kind) (L : Lawful K) (key nonce : List ℕ) (T : Terms) (begins : 
       let is : K .answer (closeOf K (afterStart K key nonce T qs) (c .edition) (c .tag)) ≡ verdictOf (K .way) (c .tag) (ownTag K at-end) =
       ap (λ (E : Edition). K .answer (closeOf K (afterStart K key nonce T qs) E (c .tag))) own-edition ∙ ap (λ (x : K .Step). K .answer x) (close-is (c .tag) long) ∙ L .answered _ _ in
       rw is (verdict-number K L (K .way) (c .tag) (ownTag K at-end))
+
+  -- and reports as many runs of P as one sealing of the joined parts has
+  pub own-runs : (given : List ℕ) → length given ≡ tagLength K
+      → closeRuns K (afterStart K key nonce T qs) (T .edition) given
+      ≡ sealingRuns (K .width) (length (headerOf T (noteOf K key nonce T qs))) (length (bodyOf K key nonce T qs)) (length (trailerOf K key nonce T qs))
+  unfolding closeRuns
+  own-runs given h =
+      let answered : K .answer (closeOf K (afterStart K key nonce T qs) (T .edition) given) ≡ verdictOf (K .way) given (ownTag K at-end) =
+      ap (λ (x : K .Step). K .answer x) (close-is given h) ∙ L .answered _ _ in
+      let is : K .place (afterStart K key nonce T qs) ≡ place = ap (λ (s : K .Session). K .place s) (session-is K L key nonce T begins qs) ∙ place-held K L key nonce T part n b t in
+      reported-with _ _ (rw answered (verdict-number K L (K .way) given (ownTag K at-end)))
+      ∙ ap (placeRuns (K .width)) is ∙ ap (λ (k : ℕ). sealingRuns (K .width) k (length b) (length t)) (sym (header-long T n))

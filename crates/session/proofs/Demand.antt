@@ -21,6 +21,7 @@ use Rattle.session.proofs.Pieces.{afterAll}
 use Rattle.session.proofs.Refused.{Lawful, closeTo, no-verdict, refuses-unsound, refuses-other-jobs, refusal-changes-nothing, no-piece-answers-10, close-ends, closed-refuses}
 use Rattle.session.proofs.Calls.{piecesOf, AsPieces, as-pieces, still-unclosed, without-refused}
 use Rattle.session.proofs.Begun.{not-started, start-limits-of, session-is, stands, alike-is}
+use Rattle.session.proofs.Reports.{reports-closes}
 use Rattle.session.proofs.Closing.{tag-length, close-own, own-closes}
 use Rattle.session.proofs.Taking.{parts-within, takes-piece}
 use Rattle.session.proofs.OneSealing.{sealing-is}
@@ -50,7 +51,7 @@ module _ (K : Kind) (L : Lawful K) where
       let same-as = as-its-pieces key nonce T cs still in
       same-as .session ∙ session-is K L key nonce T h (piecesOf cs) ∙ ap (heldBy K key nonce T) (sym (same-as .pieces))
 
-  is-open : (part : Part) (s : Standing) → s ≡ Open part → s ≡ Closed → ⊥
+  pub is-open : (part : Part) (s : Standing) → s ≡ Open part → s ≡ Closed → ⊥
   is-open part s e f = open-not-closed part (sym e ∙ f)
 
   -- a session is open from its start until it is closed
@@ -115,6 +116,7 @@ module _ (K : Kind) (L : Lawful K) where
     refusals = refusal-changes-nothing K L;
     no-piece-10 = no-piece-answers-10 K L;
     close-ends = close-ends K L;
+    reports = reports-closes K L;
     closed-refuses = closed-refuses K L;
     open-until-closed = open-until-closed;
     one-session = one-session;

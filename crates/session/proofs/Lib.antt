@@ -10,8 +10,11 @@ pub mod Held
 pub mod Wrote
 pub mod Whole
 pub mod Begun
+pub mod Reports
 pub mod Closing
 pub mod Taking
 pub mod OneSealing
 pub mod OneOpening
 pub mod Demand
+pub mod Largest
+pub mod Ran

@@ -2,6 +2,7 @@
 -- Assumes nothing.
 use mathlib.Core.Path.{_≡_, refl, sym, ap, ap₂, _∙_}
 use mathlib.Core.Bool.{Bool, true, false, cond}
+use mathlib.Core.Logic.{_⊎_}
 use mathlib.Core.List.{List, _++_}
 use mathlib.Core.Option.{none, some}
 use Prim.Native.Nat.{ℕ, _-_, _/_, _≤_}
@@ -10,22 +11,27 @@ use lib.ListN.{length, length-append}
 use lib.Seq.{take-at, drop-at}
 use Rattle.places.specs.declared.Part.{Part}
 use Rattle.norx.specs.Norx.{rowBytes, message, same, bodyPart, tagPart, recovered, opened}
+use Rattle.norx.specs.Runs.{countedRuns, sealingRuns}
 use Rattle.norx.proofs.Bytes.{Bytes, bytes-append}
+use Rattle.norx.proofs.Runs.{counts-sealing, length-recovered}
 use Rattle.answers.specs.declared.Answer.the-variants.{Done, TagDiffers}
 use Rattle.answers.specs.Answers.{numberOf, needOf}
+use Rattle.answers.proofs.Runs.{reported-with}
 use Rattle.rules.specs.Calls.{answerOf}
+use Rattle.rules.specs.OneCall.{openAnswer}
+use Rattle.rules.specs.Runs.{openRuns}
 use Rattle.rules.specs.Limits.{widthsLength, OpenLimits}
 use Rattle.rules.proofs.Lengths.{tag-fits}
 use Rattle.rules.proofs.OneCall.{some-message, no-message, open-done}
 use Rattle.places.specs.declared.terms.Terms.{Terms}
 use Rattle.places.specs.declared.Part.the-variants.{Note, Body, Trailer}
-use Rattle.session.specs.Sessions.{Way, checking, verdictOf, Kind, tagLength, ownTag, closeOf}
+use Rattle.session.specs.Sessions.{Way, checking, verdictOf, Kind, closedOf, tagLength, ownTag, closeOf, closeRuns}
 use Rattle.session.specs.Offered.{Piece, joined, headerOf, heldBy}
 use Rattle.session.specs.Promises.{Started, AnswersOneOpening}
-use Rattle.session.proofs.Refused.{Lawful}
+use Rattle.session.proofs.Refused.{Lawful, verdict-number}
 use Rattle.session.proofs.Whole.{beforeAsOne, tagAsOne, broughtBody, message-whole}
 use Rattle.session.proofs.Begun.{bytes-joined, start-limits-of, afterStart, acceptedFrom, noteOf, bodyOf, trailerOf}
-use Rattle.session.proofs.Closing.{tag-length, own-tag, close-is}
+use Rattle.session.proofs.Closing.{tag-length, own-tag, close-is, own-runs}
 use Rattle.session.proofs.Taking.{parts-within}
 
 module _ (K : Kind) (L : Lawful K) (key nonce : List ℕ) (T : Terms) (begins : Started K key nonce T) (qs : List Piece) (checks : K .way ≡ checking) where
@@ -86,9 +92,33 @@ module _ (K : Kind) (L : Lawful K) (key nonce : List ℕ) (T : Terms) (begins : 
         exact = omega arith;
       }
 
+  -- the number in the definition, by the lengths
+  counted-recovered : (given : List ℕ) → length given ≡ tagLength K
+      → countedRuns (K .width) (T .rounds) (K .tagBits) key nonce (headerOf T n) (recovered (K .width) (T .rounds) (K .tagBits) key nonce (headerOf T n) (text given)) t
+      ≡ sealingRuns (K .width) (length (headerOf T n)) (length b) (length t)
+  counted-recovered given h =
+      counts-sealing (K .width) .by-formula (T .rounds) (K .tagBits) key nonce (headerOf T n) (recovered (K .width) (T .rounds) (K .tagBits) key nonce (headerOf T n) (text given)) t
+      ∙ ap (λ (k : ℕ). sealingRuns (K .width) (length (headerOf T n)) k (length t))
+      (length-recovered (K .width) (T .rounds) (K .tagBits) key nonce (headerOf T n) (text given) ∙ cut given h)
+
+  zero-or-ten : (given : List ℕ) → length given ≡ tagLength K → (closing given ≡ 0) ⊎ (closing given ≡ 10)
+  zero-or-ten given h =
+      rw (close-is K L key nonce T begins qs given h) (rw (L .answered (verdictOf (K .way) given (ownTag K (heldBy K key nonce T (acceptedFrom K key nonce T qs)))) (closedOf K))
+      (verdict-number K L (K .way) given (ownTag K (heldBy K key nonce T (acceptedFrom K key nonce T qs)))))
+
+  as-opening : (given : List ℕ) → length given ≡ tagLength K → (out : List ℕ)
+      → (numberOf (openAnswer (K .width) (T .rounds) key nonce (headerOf T n) (text given) t out) ≡ 0)
+      ⊎ (numberOf (openAnswer (K .width) (T .rounds) key nonce (headerOf T n) (text given) t out) ≡ 10)
+      → openRuns (K .width) (T .rounds) key nonce (headerOf T n) (text given) t out ≡ sealingRuns (K .width) (length (headerOf T n)) (length b) (length t)
+  unfolding openRuns
+  as-opening given h out e =
+      reported-with (openAnswer (K .width) (T .rounds) key nonce (headerOf T n) (text given) t out) _ e
+      ∙ ap (λ (k : ℕ). sealingRuns (K .width) (length (headerOf T n)) k (length t))
+      (ap (λ (k : ℕ). length (text given) - k / 8) (sym (L .tagged)) ∙ cut given h)
+
   pub checking-is : (given : List ℕ) → Bytes given → length given ≡ tagLength K
       → AnswersOneOpening K key nonce T (headerOf T (noteOf K key nonce T qs)) (bodyOf K key nonce T qs) (trailerOf K key nonce T qs)
-      (numberOf (K .answer (closeOf K (afterStart K key nonce T qs) (T .edition) given))) given
+      (numberOf (K .answer (closeOf K (afterStart K key nonce T qs) (T .edition) given))) (closeRuns K (afterStart K key nonce T qs) (T .edition) given) given
   checking-is given bytes h =
       let is : closing given ≡ numberOf (answerOf (opened (K .width) (T .rounds) (K .tagBits) key nonce (headerOf T n) (text given) t)) = ap numberOf (opening-is given h) in
       let fits : K .tagBits / 8 ≤ rowBytes (K .width) = rw (L .tagged) (tag-fits (K .width)) in
@@ -98,7 +128,10 @@ module _ (K : Kind) (L : Lawful K) (key nonce : List ℕ) (T : Terms) (begins : 
       record {
         yes = (λ e. one .0 (sym is ∙ e), λ m. is ∙ one .1 m);
         no = (λ e. none-of .0 (sym is ∙ e), λ never. is ∙ none-of .1 never);
+        counted = own-runs K L key nonce T begins qs given h ∙ sym (counted-recovered given h);
         as-one-call = λ out long.
             let done = open-done (K .width) (T .rounds) key nonce (headerOf T n) (text given) t out (open-within given out h long) in
-            is ∙ ap (λ (x : ℕ). numberOf (answerOf (opened (K .width) (T .rounds) x key nonce (headerOf T n) (text given) t))) (L .tagged) ∙ sym (ap numberOf (done .0));
+            let same-number : closing given ≡ numberOf (openAnswer (K .width) (T .rounds) key nonce (headerOf T n) (text given) t out) =
+            is ∙ ap (λ (x : ℕ). numberOf (answerOf (opened (K .width) (T .rounds) x key nonce (headerOf T n) (text given) t))) (L .tagged) ∙ sym (ap numberOf (done .0)) in
+            (same-number, own-runs K L key nonce T begins qs given h ∙ sym (as-opening given h out (rw (sym same-number) (zero-or-ten given h))));
       }

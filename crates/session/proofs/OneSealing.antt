@@ -2,6 +2,7 @@
 -- Assumes nothing.
 use mathlib.Core.Path.{_≡_, sym, ap, ap₂, _∙_}
 use mathlib.Core.Bool.{cond}
+use mathlib.Core.Logic.{inl}
 use mathlib.Core.List.{List, [], _++_}
 use Prim.Native.Nat.{ℕ}
 use lib.ListN.{length}
@@ -9,13 +10,18 @@ use Rattle.places.specs.declared.Part.{Part}
 use Rattle.norx.proofs.Bytes.{Bytes}
 use Rattle.norx.specs.Norx.{ciphertext, sealed}
 use Rattle.norx.specs.Stream.{fedText}
+use Rattle.norx.specs.Runs.{sealingRuns}
+use Rattle.norx.proofs.Runs.{counts-sealing}
 use Rattle.answers.specs.declared.Answer.the-variants.{Done}
 use Rattle.answers.specs.Answers.{numberOf, doneOf}
 use Rattle.answers.proofs.Tests.{cond-true}
+use Rattle.answers.proofs.Runs.{reported-with}
+use Rattle.rules.specs.OneCall.{sealAnswer}
+use Rattle.rules.specs.Runs.{sealRuns}
 use Rattle.rules.proofs.OneCall.{seal-done}
 use Rattle.places.specs.declared.terms.Terms.{Terms}
 use Rattle.places.specs.declared.Part.the-variants.{Note, Body, Trailer}
-use Rattle.session.specs.Sessions.{Way, sealing, verdictOf, Kind, tagLength, ownTag, closeAnswerOf, closeOf, closeTag}
+use Rattle.session.specs.Sessions.{Way, sealing, verdictOf, Kind, tagLength, ownTag, closeAnswerOf, closeOf, closeRuns, closeTag}
 use Rattle.session.specs.Offered.{Piece, joined, headerOf, heldBy}
 use Rattle.session.specs.Promises.{Started, begun, CompletesOneSealing}
 use Rattle.session.proofs.Pieces.{wroteAll}
@@ -24,7 +30,7 @@ use Rattle.session.proofs.Held.{fresh-held}
 use Rattle.session.proofs.Wrote.{cipher, all-wrote}
 use Rattle.session.proofs.Whole.{beforeAsOne, tagAsOne, broughtBody, text-whole}
 use Rattle.session.proofs.Begun.{bytes-joined, started, start-limits-of, afterStart, acceptedFrom, noteOf, bodyOf, trailerOf, accepted-fresh, session-is}
-use Rattle.session.proofs.Closing.{own-closing, own-tag, close-is}
+use Rattle.session.proofs.Closing.{own-closing, own-tag, close-is, own-runs}
 use Rattle.session.proofs.Taking.{parts-within}
 
 module _ (K : Kind) (L : Lawful K) (key nonce : List ℕ) (T : Terms) (begins : Started K key nonce T) (qs : List Piece) (seals : K .way ≡ sealing) where
@@ -65,13 +71,21 @@ module _ (K : Kind) (L : Lawful K) (key nonce : List ℕ) (T : Terms) (begins : 
   unfolding sealed
   one-text given h = ap₂ (λ (x y : List ℕ). x ++ y) one-ciphertext (one-tag given h)
 
+  as-sealing : (out : List ℕ) → numberOf (sealAnswer (K .width) (T .rounds) key nonce (headerOf T n) b t out) ≡ 0
+      → sealRuns (K .width) (T .rounds) key nonce (headerOf T n) b t out ≡ sealingRuns (K .width) (length (headerOf T n)) (length b) (length t)
+  unfolding sealRuns
+  as-sealing out e = reported-with (sealAnswer (K .width) (T .rounds) key nonce (headerOf T n) b t out) _ (inl e)
+
   pub sealing-is : (given : List ℕ) → length given ≡ tagLength K
       → CompletesOneSealing K key nonce T (headerOf T (noteOf K key nonce T qs)) (bodyOf K key nonce T qs) (trailerOf K key nonce T qs)
-      (numberOf (K .answer (closeOf K (afterStart K key nonce T qs) (T .edition) given))) (wroteAll K (begun K key nonce T) qs ++ closeTag K (afterStart K key nonce T qs) (T .edition) given)
+      (numberOf (K .answer (closeOf K (afterStart K key nonce T qs) (T .edition) given))) (closeRuns K (afterStart K key nonce T qs) (T .edition) given) (wroteAll K (begun K key nonce T) qs ++ closeTag K (afterStart K key nonce T qs) (T .edition) given)
   sealing-is given h = record {
     answered = ap numberOf (one-answer given h);
     as-defined = one-text given h;
+    counted = own-runs K L key nonce T begins qs given h ∙ sym (counts-sealing (K .width) .by-formula (T .rounds) (K .tagBits) key nonce (headerOf T n) b t);
     as-one-call = λ out long.
-        let done = seal-done (K .width) (T .rounds) key nonce (headerOf T n) b t out (record { begins = start-limits-of K L key nonce T .0 begins; parts = parts-within K L key nonce T begins qs; exact = long }) in
-        (done .0, done .1 ∙ ap (λ (x : ℕ). sealed (K .width) (T .rounds) x key nonce (headerOf T n) b t) (sym (L .tagged)) ∙ sym (one-text given h));
+        let done = seal-done (K .width) (T .rounds) key nonce (headerOf T n) b t out (record { begins = start-limits-of K L key nonce T .0 begins; parts = parts-within K L key nonce T begins qs; exact = long }) in (
+          done .0,
+          (done .1 ∙ ap (λ (x : ℕ). sealed (K .width) (T .rounds) x key nonce (headerOf T n) b t) (sym (L .tagged)) ∙ sym (one-text given h), as-sealing out (done .0) ∙ sym (own-runs K L key nonce T begins qs given h)),
+        );
   }

@@ -6,19 +6,21 @@ use mathlib.Core.Path.{_≡_}
 use mathlib.Core.Logic.{_⊎_, _↔_, _≢_}
 use mathlib.Core.List.{List, [], _∷_, _++_, map}
 use lib.ListN.{length}
-use Rattle.norx.specs.Norx.{sealed}
+use Rattle.norx.specs.Norx.{sealed, recovered}
+use Rattle.norx.specs.Runs.{countedRuns}
 use Rattle.norx.specs.Texts.{SealsTo}
 use Rattle.answers.specs.Answers.{numberOf}
 use Rattle.rules.specs.Limits.{widthsLength, StartLimits, PartLimits}
 use Rattle.rules.specs.OneCall.{sealAnswer, sealOut, openAnswer}
+use Rattle.rules.specs.Runs.{sealRuns, openRuns}
 use Rattle.places.specs.declared.terms.Terms.{Terms}
 use Rattle.places.specs.declared.Part.{Part}
 use Rattle.places.specs.declared.Part.the-variants.{Note, Body, Trailer}
 use Rattle.places.specs.declared.Standing.the-variants.{Closed, Open}
 use Rattle.places.specs.Places.{rankOf}
-use Rattle.session.specs.Sessions.{Way, sealing, checking, Kind, closedOf, startOf, closeTag}
+use Rattle.session.specs.Sessions.{Way, sealing, checking, Kind, closedOf, startOf, closeRuns, closeTag}
 use Rattle.session.specs.Offered.{Piece, Close, Call, piece, close, numberTo, afterCall, afterCalls, acceptedIn, wroteIn, joined, lastPart, headerOf, heldBy}
-use Rattle.session.specs.Refusals.{most, RefusesUnsound, RefusesOtherJobs, RefusalChangesNothing, CloseEnds, ClosedRefuses, NoPieceAnswers10}
+use Rattle.session.specs.Refusals.{most, RefusesUnsound, RefusesOtherJobs, RefusalChangesNothing, CloseEnds, ReportsCloses, ClosedRefuses, NoPieceAnswers10}
 
 -- ---- A start
 
@@ -83,26 +85,34 @@ pub record GoesOn (way : Way) (T : Terms) (before : List Piece) (q : Piece) : Ty
   pub exact-output : ExactOutput way (q .label .part) (length (q .bytes)) (length (q .out))
 
 module _ (K : Kind) (key nonce : List ℕ) (T : Terms) (header body trailer : List ℕ) where
-  -- a close completes one sealing: its answer, and `text`, which is the ciphertext that was written and the tag
-  pub record CompletesOneSealing (answer : ℕ) (text : List ℕ) : Type 0 where
+  -- a close completes one sealing: its answer, the runs that it reports, and `text`, which is the ciphertext that was written and the tag
+  pub record CompletesOneSealing (answer runs : ℕ) (text : List ℕ) : Type 0 where
     pub answered : answer ≡ 0
     -- the text is what NORX 3.0 defines
     pub as-defined : text ≡ sealed (K .width) (T .rounds) (K .tagBits) key nonce header body trailer
-    -- and what `seal` writes in one call, answered 0, to an output of the exact length
+    -- and the number of runs is that in the definition
+    pub counted : runs ≡ countedRuns (K .width) (T .rounds) (K .tagBits) key nonce header body trailer
+    -- which `seal` writes and reports in one call, answered 0, to an output of the exact length
     pub as-one-call : (out : List ℕ) → length out ≡ length body + widthsLength (K .width)
-        → (numberOf (sealAnswer (K .width) (T .rounds) key nonce header body trailer out) ≡ 0) × (sealOut (K .width) (T .rounds) key nonce header body trailer out ≡ text)
+        → (numberOf (sealAnswer (K .width) (T .rounds) key nonce header body trailer out) ≡ 0)
+        × ((sealOut (K .width) (T .rounds) key nonce header body trailer out ≡ text) × (sealRuns (K .width) (T .rounds) key nonce header body trailer out ≡ runs))
 
   -- M is a message that seals to the ciphertext `body` and a tag
   abbrev pub MessageOf : List ℕ → List ℕ → Type 0
   MessageOf tag M = SealsTo (K .width) (T .rounds) (K .tagBits) key nonce header trailer (body ++ tag) M
 
-  -- a close says what one opening says: its answer, and the tag that it was given
-  pub record AnswersOneOpening (answer : ℕ) (tag : List ℕ) : Type 0 where
+  -- a close says what one opening says: its answer, the runs that it reports, and the tag that it was given
+  pub record AnswersOneOpening (answer runs : ℕ) (tag : List ℕ) : Type 0 where
     -- yes exactly when there is such a message, and no exactly when there is none
     pub yes : (answer ≡ 0) ↔ ((M : List ℕ) × MessageOf tag M)
     pub no : (answer ≡ 10) ↔ ((M : List ℕ) → MessageOf tag M → ⊥)
-    -- which is what `open` answers in one call with an output of the exact length
-    pub as-one-call : (out : List ℕ) → length out ≡ length body → answer ≡ numberOf (openAnswer (K .width) (T .rounds) key nonce header (body ++ tag) trailer out)
+    -- the number of runs is that in sealing the message that the text would be of
+    pub counted : runs
+        ≡ countedRuns (K .width) (T .rounds) (K .tagBits) key nonce header (recovered (K .width) (T .rounds) (K .tagBits) key nonce header (body ++ tag)) trailer
+    -- which is what `open` answers and reports in one call with an output of the exact length
+    pub as-one-call : (out : List ℕ) → length out ≡ length body
+        → (answer ≡ numberOf (openAnswer (K .width) (T .rounds) key nonce header (body ++ tag) trailer out))
+        × (runs ≡ openRuns (K .width) (T .rounds) key nonce header (body ++ tag) trailer out)
 
 module _ (K : Kind) where
   -- a session is open from its start until a close is answered 0 or 10
@@ -158,7 +168,7 @@ module _ (K : Kind) where
   OneSealing =
       (key nonce : List ℕ) (T : Terms) → Started K key nonce T → (cs : List Call) (c : Close) → OwnClose key nonce T cs c
       → CompletesOneSealing K key nonce T (joinedHeader K key nonce T cs) (joinedPart K key nonce T cs Body) (joinedPart K key nonce T cs Trailer)
-      (numberTo K (sessionAfter K key nonce T cs) (close c))
+      (numberTo K (sessionAfter K key nonce T cs) (close c)) (closeRuns K (sessionAfter K key nonce T cs) (c .edition) (c .tag))
       (wroteIn K (begun K key nonce T) cs ++ closeTag K (sessionAfter K key nonce T cs) (c .edition) (c .tag))
 
   -- the close of a checking session says what one opening of the joined pieces and the tag says
@@ -166,7 +176,7 @@ module _ (K : Kind) where
   OneOpening =
       (key nonce : List ℕ) (T : Terms) → Started K key nonce T → (cs : List Call) (c : Close) → OwnClose key nonce T cs c
       → AnswersOneOpening K key nonce T (joinedHeader K key nonce T cs) (joinedPart K key nonce T cs Body) (joinedPart K key nonce T cs Trailer)
-      (numberTo K (sessionAfter K key nonce T cs) (close c)) (c .tag)
+      (numberTo K (sessionAfter K key nonce T cs) (close c)) (closeRuns K (sessionAfter K key nonce T cs) (c .edition) (c .tag)) (c .tag)
 
 -- what is promised of every kind
 pub record Promised (K : Kind) : Type 0 where
@@ -176,6 +186,7 @@ pub record Promised (K : Kind) : Type 0 where
   pub refusals : RefusalChangesNothing K
   pub no-piece-10 : NoPieceAnswers10 K
   pub close-ends : CloseEnds K
+  pub reports : ReportsCloses K
   pub closed-refuses : ClosedRefuses K
   pub open-until-closed : OpenUntilClosed K
   pub one-session : OneSession K

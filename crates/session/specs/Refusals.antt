@@ -1,16 +1,18 @@
--- Demand 1 of a session, of any session at all and any call on it, in numbers: when it is not sound, when a call is of another job, what a refusal leaves, and what a close leaves.
+-- Demand 1 of a session, of any session at all and any call on it, in numbers: when it is not sound, when a call is of another job, what a refusal leaves, what a close leaves, and what it reports.
 -- Assumes nothing.
-use Prim.Native.Nat.{ℕ, _≤_}
+use Prim.Native.Nat.{ℕ, _+_, _≤_}
 use mathlib.Core.Path.{_≡_}
 use mathlib.Core.Logic.{_⊎_, _↔_, _≢_}
 use mathlib.Core.List.{List}
+use Rattle.norx.specs.Runs.{sealingRuns}
+use Rattle.rules.specs.Runs.{ReportsRuns}
 use Rattle.places.specs.declared.terms.Edition.{Edition}
 use Rattle.places.specs.declared.Part.{Part}
 use Rattle.places.specs.declared.Part.the-variants.{Note, Body, Trailer}
 use Rattle.places.specs.declared.Standing.the-variants.{Closed, Open}
 use Rattle.places.specs.declared.Label.{Label}
 use Rattle.places.specs.declared.Place.{Place}
-use Rattle.session.specs.Sessions.{Kind, closedOf, pieceOf, pieceOut, closeOf, closeTag}
+use Rattle.session.specs.Sessions.{Kind, closedOf, pieceOf, pieceOut, closeOf, closeRuns, closeTag}
 use Rattle.session.specs.Offered.{pieceNumber, closeNumber}
 
 -- the most bytes of a part in a session
@@ -61,6 +63,13 @@ module _ (K : Kind) where
   CloseEnds =
       (s : K .Session) (edition : Edition) (tag : List ℕ) → (closeNumber K s edition tag ≡ 0) ⊎ (closeNumber K s edition tag ≡ 10)
       → K .next (closeOf K s edition tag) ≡ closedOf K
+
+  -- a close of any session at all reports the runs of P in the whole sealing, by the counts that the session holds and the 16 bytes in front of its note
+  abbrev pub ReportsCloses : Type 0
+  ReportsCloses =
+      (s : K .Session) (edition : Edition) (tag : List ℕ)
+      → ReportsRuns (K .width) (sealingRuns (K .width) (16 + K .place s .note) (K .place s .body) (K .place s .trailer)) (16 + K .place s .note) (K .place s .body)
+      (K .place s .trailer) (closeNumber K s edition tag) (closeRuns K s edition tag)
 
   -- the session that a close gives back is closed, and a closed session refuses every call with 9
   pub record ClosedRefuses : Type 0 where

@@ -3,12 +3,15 @@
 use Prim.Native.Nat.{ℕ, _/_}
 use mathlib.Core.Bool.{Bool, true, cond}
 use mathlib.Core.List.{List, [], _∷_}
+use lib.Dec.{leb}
 use lib.ListN.{length, replicate}
 use Rattle.norx.specs.Norx.{Width, rowBytes, State, row, rows, wordAt, rowAt, rowOf, headerMark, bodyMark, trailerMark, start, tagOf, same}
 use Rattle.norx.specs.Stream.{fed, ended, fedText, unfed}
+use Rattle.norx.specs.Runs.{sealingRuns}
 use Rattle.answers.specs.declared.Answer.{Answer}
 use Rattle.answers.specs.declared.Answer.the-variants.{Done, TagDiffers}
-use Rattle.answers.specs.Answers.{doneOf, needOf}
+use Rattle.answers.specs.Answers.{doneOf, needOf, runsWith}
+use Rattle.rules.specs.Runs.{runsWithin}
 use Rattle.places.specs.declared.terms.Edition.{Edition}
 use Rattle.places.specs.declared.terms.Terms.{Terms}
 use Rattle.places.specs.declared.Part.{Part}
@@ -16,7 +19,7 @@ use Rattle.places.specs.declared.Part.the-variants.{Note, Body, Trailer}
 use Rattle.places.specs.declared.Label.{Label}
 use Rattle.places.specs.declared.Place.{Place}
 use Rattle.places.specs.Terms.{frontOf}
-use Rattle.places.specs.Places.{rankOf, behindAll, markOf, endsOf, fedOf, freshPlace, closedPlace, moved, startAnswer, pieceAnswer, sealExact, closeAnswer}
+use Rattle.places.specs.Places.{rankOf, behindAll, limitOf, markOf, endsOf, fedOf, freshPlace, closedPlace, moved, startAnswer, pieceAnswer, sealExact, closeAnswer}
 
 -- a session seals messages, or checks ciphertext against a tag
 pub data Way : Type 0 where
@@ -81,6 +84,14 @@ module _ (w : Width) (p : Place) where
   writtenAt sealing Body x s out = fedText w (p .terms .rounds) (readied (rankOf Body) s) (fedOf p Body) x
   writtenAt sealing Trailer x s out = out
   writtenAt checking part x s out = out
+
+-- how many times P runs in a sealing of as many bytes as the state took in of each part, the front included
+abbrev pub placeRuns : Width → Place → ℕ
+placeRuns w p = sealingRuns w (fedOf p Note) (fedOf p Body) (fedOf p Trailer)
+
+-- the same where no count is over its limit, and else 0
+abbrev pub placeRunsWithin : Width → Place → ℕ
+placeRunsWithin w p = cond (leb (p .note) (limitOf Note)) (runsWithin w (fedOf p Note) (fedOf p Body) (fedOf p Trailer)) 0
 
 -- whether an output has the exact length for a piece of n bytes; a checking session takes none
 abbrev pub exactOf : Way → Part → ℕ → ℕ → Bool
@@ -171,6 +182,10 @@ module _ (K : Kind) where
   closeOf s edition tag =
       let a = closeAnswerOf s edition tag in
       cond (doneOf a) (K .step (verdictOf (K .way) tag (ownTag s)) closedOf) (K .step a s)
+
+  -- the runs of P that are reported with the answer: those of the whole sealing, by the counts that the session holds
+  unfoldable pub closeRuns : K .Session → Edition → List ℕ → ℕ
+  closeRuns s edition tag = runsWith (K .answer (closeOf s edition tag)) (placeRuns (K .width) (K .place s))
 
   -- what the tag buffer of a sealing session then holds
   unfoldable pub closeTag : K .Session → Edition → List ℕ → List ℕ

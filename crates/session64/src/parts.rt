@@ -5,7 +5,7 @@ ghost use lib.ListN.{length};
 ghost use Rattle.norx.specs.Lent.{was};
 ghost use Rattle.norx.specs.Norx.{word64, rowBytes, tagBits, rowOf, tagOf};
 ghost use Rattle.places.specs.Places.{behindAll, limitOf};
-ghost use Rattle.session.specs.Sessions.{rowsOf, flatOf, freshState, endIf, readied as readiedOf};
+ghost use Rattle.session.specs.Sessions.{rowsOf, flatOf, freshState, endIf, readied as readiedOf, placeRunsWithin};
 ghost use Rattle.places.specs.declared.Part.the-variants.{Note};
 use blocks64::ends::row;
 use blocks64::ends::start;
@@ -19,6 +19,7 @@ use places::terms::Terms;
 use rules::BODY_MARK;
 use rules::FRONT;
 use rules::HEADER_MARK;
+use rules::LONGEST_NOTE;
 use rules::TRAILER_MARK;
 use rules::w64::*;
 use sponge64::pieces::end;
@@ -103,4 +104,15 @@ pub(crate) fn own_tag(s: State, p: Place, key: Row) -> [u8; TAG]
     ensures { λ r. ⌜ r ≡ tagOf word64 (p .terms .rounds) (tagBits word64) key (readiedOf word64 p behindAll s) ⌝ }
 {
     tag(p.terms.rounds, key, readied(s, p, BEHIND_ALL))
+}
+
+// How many times P runs in the whole sealing of what a session took in, the front included; 0 where a count is over its limit.
+pub(crate) fn runs_of(p: Place) -> u32
+    ensures { λ r. ⌜ r ≡ placeRunsWithin word64 p ⌝ }
+{
+    if p.note <= LONGEST_NOTE {
+        runs(FRONT + p.note, p.body, p.trailer)
+    } else {
+        0
+    }
 }

@@ -4,15 +4,17 @@ ghost use lib.ListN.{length};
 ghost use Rattle.norx.specs.Lent.{was};
 ghost use Rattle.norx.specs.Norx.{word64, rowBytes};
 ghost use Rattle.places.specs.Places.{Accepted};
-ghost use Rattle.session.specs.Sessions.{sealing, flatOf, takenAt, writtenAt, exactOf, closedOf, freshOf, startOf, pieceOf, pieceOut, closeOf, closeTag};
-ghost use Rattle.session64.specs.Kinds.{sealing64, sealingPlace, sealingMade};
+ghost use Rattle.session.specs.Sessions.{sealing, flatOf, takenAt, writtenAt, exactOf, closedOf, freshOf, startOf, pieceOf, pieceOut, closeOf, closeRuns, closeTag};
+ghost use Rattle.session64.specs.Kinds.{sealing64, sealingPlace, sealingMade, sealingClose};
 use super::parts::flat;
 use super::parts::fresh_state;
 use super::parts::own_tag;
 use super::parts::readied;
 use super::parts::rows;
+use super::parts::runs_of;
 use answers::Answer;
 use answers::done;
+use answers::reported;
 use blocks64::ends::row;
 use places::Label;
 use places::Part;
@@ -46,9 +48,16 @@ pub struct Sealing {
     pub standing: Standing,
 }
 
-// What a call answers, and the session to go on with.
+// What a start or a piece answers, and the session to go on with.
 pub struct SealingStep {
     pub answer: Answer,
+    pub session: Sealing,
+}
+
+// What a close answers, how many times P ran in the whole sealing, and the session to go on with.
+pub struct SealingClose {
+    pub answer: Answer,
+    pub runs: u32,
     pub session: Sealing,
 }
 
@@ -116,7 +125,24 @@ impl Sealing {
     }
 
     // Writes the tag and gives back the closed session, or refuses and changes nothing.
-    pub fn close(self, edition: Edition, tag: &mut [u8]) -> SealingStep
+    pub fn close(self, edition: Edition, tag: &mut [u8]) -> SealingClose
+        ensures step { λ r. ⌜ r ≡ sealingClose (closeOf sealing64 self edition (was tag)) (closeRuns sealing64 self edition (was tag)) ⌝ }
+        ensures tag { λ _. ⌜ now (tag .exit) ≡ closeTag sealing64 self edition (was tag) ⌝ }
+    {
+        let n = runs_of(self.place());
+        let step = self.closing(edition, tag);
+        let answer = step.answer;
+        let session = step.session;
+        let report = reported(answer, n);
+        SealingClose {
+            answer,
+            runs: report.runs,
+            session,
+        }
+    }
+
+    // The answer of a close, and the session then.
+    fn closing(self, edition: Edition, tag: &mut [u8]) -> SealingStep
         ensures step { λ r. ⌜ r ≡ closeOf sealing64 self edition (was tag) ⌝ }
         ensures tag { λ _. ⌜ now (tag .exit) ≡ closeTag sealing64 self edition (was tag) ⌝ }
     {

@@ -2,6 +2,7 @@
 use crate::arguments::Arguments;
 use crate::call::no_call;
 use crate::names::TAKEN;
+use crate::names::reports_runs;
 use crate::parts::first;
 use crate::parts::part;
 use crate::room;
@@ -9,7 +10,7 @@ use crate::run::Run;
 use crate::tell;
 use answers::number;
 
-// A call that lends no output is told by its answer alone.
+// A line has the answer, the runs of P where the call reports them, the output where one is lent, and where a segment is taken, what the receiver waits for; a quiet one the answer alone.
 pub(crate) fn answered(k: usize, a: Arguments, memory: &[u8], mut run: Run) -> Run {
     if !dispatch::is_call(k, a.words, run.kept.session) {
         return no_call(run);
@@ -19,11 +20,11 @@ pub(crate) fn answered(k: usize, a: Arguments, memory: &[u8], mut run: Run) -> R
     let answer = step.answer;
     let next = step.kept;
     run.kept = next;
-    run.told(tell::output(
-        number(answer),
-        part(&out, 0, a.lent),
-        run.is_quiet | !a.lends,
-        k == TAKEN,
-        next.receiver.waiting(),
-    ))
+    let loud = !run.is_quiet;
+    run.told(
+        tell::outcome(number(answer), reports_runs(k) & loud, step.runs)
+            & tell::output(a.lends & loud, part(&out, 0, a.lent))
+            & tell::waiting((k == TAKEN) & loud, next.receiver.waiting())
+            & tell::byte(b'\n'),
+    )
 }

@@ -58,6 +58,11 @@ pub(crate) const WORDS: usize = 10;
 // The row of the call that takes a segment.
 pub(crate) const TAKEN: usize = 12;
 
+// Whether the call of a row reports the runs of P: seal, open, close, check, segment and take do.
+pub(crate) fn reports_runs(k: usize) -> bool {
+    (k == 1) | (k == 2) | (k == 6) | (k == 7) | (k == 10) | (k == TAKEN)
+}
+
 // Where the standings and the parts begin among the rows, and where they end; the calls come first.
 pub(crate) const STANDINGS: usize = 17;
 

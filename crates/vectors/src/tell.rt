@@ -22,28 +22,27 @@ pub(crate) fn answer(number: u32) -> bool {
     io::print_decimal(STDOUT_FILENO, number as u64) & byte(b'\n')
 }
 
-// The line of a call that has an output, and behind it, where a segment is taken, where the receiver waits now; where it is quiet, the answer alone.
-pub(crate) fn output(
-    number: u32,
-    out: &[u8],
-    is_quiet: bool,
-    is_taken: bool,
-    waiting: Waiting,
-) -> bool {
-    if is_quiet {
-        return answer(number);
-    }
-    let written = io::print_decimal(STDOUT_FILENO, number as u64) & byte(b' ') & bytes(out);
-    let waits = if is_taken {
-        next_waiting(waiting)
+// The number of an answer, and behind it, where a call reports them, the runs of P.
+pub(crate) fn outcome(number: u32, reports: bool, runs: u32) -> bool {
+    let answered = io::print_decimal(STDOUT_FILENO, number as u64);
+    let ran = if reports {
+        next_number(runs as u64)
     } else {
         true
     };
-    written & waits & byte(b'\n')
+    answered & ran
 }
 
-// The index for which a receiver waits and whether it is complete, each behind a space.
-fn next_waiting(waiting: Waiting) -> bool {
+// The bytes of an output behind a space, where one was lent.
+pub(crate) fn output(lent: bool, out: &[u8]) -> bool {
+    if lent { byte(b' ') & bytes(out) } else { true }
+}
+
+// Where a segment was taken, the index for which the receiver waits now and whether it is complete, each behind a space.
+pub(crate) fn waiting(taken: bool, waiting: Waiting) -> bool {
+    if !taken {
+        return true;
+    }
     let complete = if waiting.complete { 1 } else { 0 };
     next_number(waiting.index) & next_number(complete)
 }

@@ -1,7 +1,7 @@
 -- `dispatch::one_call`: the library's own call.
 -- Assumes nothing.
 use mathlib.Core.Path.{ap, _∙_}
-use Rattle.dispatch.specs.Calls.{answered, answerAt, outAt, oneCall, oneCallOut}
+use Rattle.dispatch.specs.Calls.{answered, outcomeAt, outAt, oneCall, oneCallOut}
 use Rattle.dispatch.proofs.Same.{by-same}
 use borrow.Author.Needs.{needs}
 use Rattle.dispatch.proofs.one_call.Statement.{statement}
@@ -21,7 +21,7 @@ returns c =
     let x = width .before .before .before .args in (
       ap (answered (x .held))
           (called .opened-or-sealed .ensures .0
-          ∙ by-same (λ w l k n h d t. answerAt (x .opens) w l k n h d t (x .out .now))
+          ∙ by-same (λ w l k n h d t. outcomeAt (x .opens) w l k n h d t (x .out .now))
           (width .low .ensures) (rounds .low2 .ensures) (key .stretch .ensures) (nonce .stretch2 .ensures) (header .stretch3 .ensures) (text .stretch4 .ensures) (trailer .stretch5 .ensures)),
       called .opened-or-sealed .ensures .1
           ∙ by-same (λ w l k n h d t. outAt (x .opens) w l k n h d t (x .out .now))

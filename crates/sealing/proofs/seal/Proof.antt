@@ -2,35 +2,37 @@
 -- Assumes nothing.
 use borrow.Author.Needs.{needs}
 use Rattle.norx.specs.Norx.{word32, word64}
-use Rattle.sealing.specs.Widths.{sealAnswerAt, sealOutAt}
+use Rattle.sealing.specs.Widths.{sealAnswerAt, sealRunsAt, sealOutAt}
 use Rattle.sealing.proofs.Widths.{width-32, width-64, width-none, seals-at, at-none}
 use Rattle.sealing.proofs.seal.Statement.{statement}
 use Rattle.sealing.proofs.seal.Tie as tie
 
 returns : tie.Need-returns
-unfolding sealAnswerAt sealOutAt
+unfolding sealAnswerAt sealRunsAt sealOutAt
 returns c =
     let call = c .before .before in
     let test = call .before .before in
     let x = test .before .before .before .before .before .before .before .args in
     let e = width-32 (x .width) (test .if1 .taken) in
-    (rw e (call .seal .ensures .0), (rw e (call .seal .ensures .1 .0), seals-at (x .width) (x .rounds) (x .key .now) (x .nonce .now) (x .header .now) (x .body .now) (x .trailer .now) (x .out .now) word32 (test .if1 .taken) (call .seal .ensures .0) (call .seal .ensures .1 .1)))
+    let ensured = call .seal .ensures in
+    (rw e (ensured .0), (rw e (ensured .1 .0), (rw e (ensured .1 .1 .0), seals-at (x .width) (x .rounds) (x .key .now) (x .nonce .now) (x .header .now) (x .body .now) (x .trailer .now) (x .out .now) word32 (test .if1 .taken) (ensured .0) (ensured .1 .1 .1))))
 
 returns-2 : tie.Need-returns-2
-unfolding sealAnswerAt sealOutAt
+unfolding sealAnswerAt sealRunsAt sealOutAt
 returns-2 c =
     let call = c .before .before in
     let test = call .before .before in
     let x = test .before .before .before .before .before .before .before .before .args in
     let e = width-64 (x .width) (test .before .if1 .left) (test .if2 .taken) in
-    (rw e (call .seal2 .ensures .0), (rw e (call .seal2 .ensures .1 .0), seals-at (x .width) (x .rounds) (x .key .now) (x .nonce .now) (x .header .now) (x .body .now) (x .trailer .now) (x .out .now) word64 (test .if2 .taken) (call .seal2 .ensures .0) (call .seal2 .ensures .1 .1)))
+    let ensured = call .seal2 .ensures in
+    (rw e (ensured .0), (rw e (ensured .1 .0), (rw e (ensured .1 .1 .0), seals-at (x .width) (x .rounds) (x .key .now) (x .nonce .now) (x .header .now) (x .body .now) (x .trailer .now) (x .out .now) word64 (test .if2 .taken) (ensured .0) (ensured .1 .1 .1))))
 
 returns-3 : tie.Need-returns-3
-unfolding sealAnswerAt sealOutAt
+unfolding sealAnswerAt sealRunsAt sealOutAt
 returns-3 c =
     let x = c .before .before .before .before .before .before .before .before .args in
     let e = width-none (x .width) (c .before .if1 .left) (c .if2 .left) in
-    (rw e, (rw e, at-none _ (x .width) (x .out .now) (c .before .if1 .left) (c .if2 .left)))
+    (rw e, (rw e, (rw e, at-none _ (x .width) (x .out .now) (c .before .if1 .left) (c .if2 .left))))
 
 pub seal-spec : {M : Type 1} → statement M
 seal-spec = tie.close (tie.spec (λ c κs. search needs) (λ c. search needs) returns (λ c κs. search needs) (λ c. search needs) returns-2 returns-3)

@@ -1,7 +1,8 @@
 -- `dispatch::jobs::segment`: the library's own call.
 -- Assumes nothing.
 use mathlib.Core.Path.{_∙_}
-use Rattle.segments.specs.Segments.{segmentAnswerAt, segmentOutAt}
+use Rattle.answers.proofs.Runs.{one-outcome}
+use Rattle.segments.specs.Segments.{segmentAnswerAt, segmentRunsAt, segmentOutAt}
 use Rattle.dispatch.specs.Segments.{flagOf, segmentCall, segmentCallOut}
 use Rattle.dispatch.proofs.Same.{by-same-job}
 use borrow.Author.Needs.{needs}
@@ -13,7 +14,8 @@ unfolding segmentCall segmentCallOut
 returns c =
     let called = c .before .before in
     let answer = called .seal .ensures .0 in
-    let output = called .seal .ensures .1 in
+    let runs = called .seal .ensures .1 .0 in
+    let output = called .seal .ensures .1 .1 in
     let body = called .before .before in
     let note = body .before .before in
     let terms = note .before in
@@ -23,9 +25,13 @@ returns c =
     let x = width .before .before .before .args in
     let index = x .a .eighth in
     let last = flagOf (x .a .ninth) in (
-      answer
+      one-outcome
+          (answer
           ∙ by-same-job (λ w k n T a d. segmentAnswerAt w k n T a index last d (x .out .now))
-          (width .low .ensures) (key .stretch .ensures) (nonce .stretch2 .ensures) (terms .terms .ensures) (note .stretch3 .ensures) (body .stretch4 .ensures),
+          (width .low .ensures) (key .stretch .ensures) (nonce .stretch2 .ensures) (terms .terms .ensures) (note .stretch3 .ensures) (body .stretch4 .ensures))
+          (runs
+          ∙ by-same-job (λ w k n T a d. segmentRunsAt w k n T a index last d (x .out .now))
+          (width .low .ensures) (key .stretch .ensures) (nonce .stretch2 .ensures) (terms .terms .ensures) (note .stretch3 .ensures) (body .stretch4 .ensures)),
       output
           ∙ by-same-job (λ w k n T a d. segmentOutAt w k n T a index last d (x .out .now))
           (width .low .ensures) (key .stretch .ensures) (nonce .stretch2 .ensures) (terms .terms .ensures) (note .stretch3 .ensures) (body .stretch4 .ensures),

@@ -1,7 +1,8 @@
 -- `dispatch::kept::call`: by the number of the call.
 -- Assumes nothing.
 use mathlib.Core.Path.{sym, ap, _∙_}
-use Rattle.dispatch.specs.Kept.{keptAll, keptReceiver, keptSession, keptCall, keptOut}
+use Rattle.answers.specs.declared.Answer.{Answer}
+use Rattle.dispatch.specs.Kept.{keptAll, unrun, keptReceiver, keptSession, keptCall, keptOut}
 use Rattle.dispatch.proofs.Number.{at-segment, at-receiver, at-take, at-list, at-session}
 use borrow.Author.Needs.{needs}
 use Rattle.dispatch.proofs.kept.call.Statement.{statement}
@@ -49,7 +50,7 @@ returns-4 c =
     let not-11 = last .before .before .if2 .left in
     let not-12 = last .before .if3 .left in
     let is-14 = last .if4 .taken in (
-      ap (keptAll (x .kept)) (called .list .ensures .0) ∙ sym (at-list _ _ _ _ _ _ not-10 not-11 not-12 is-14),
+      ap (λ (a : Answer). keptAll (x .kept) (unrun a)) (called .list .ensures .0) ∙ sym (at-list _ _ _ _ _ _ not-10 not-11 not-12 is-14),
       called .list .ensures .1 ∙ sym (at-list _ _ _ _ _ _ not-10 not-11 not-12 is-14),
     )
 

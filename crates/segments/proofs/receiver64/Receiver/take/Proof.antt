@@ -1,6 +1,7 @@
 -- `segments::receiver64::Receiver::take`: the segment opened, and what it then waits for.
 -- Assumes nothing.
 use mathlib.Core.Path.{sym, ap, ap₂, _∙_}
+use Prim.Native.Nat.{ℕ}
 use borrow.Author.Needs.{needs}
 use Rattle.norx.specs.Norx.{word64}
 use Rattle.answers.specs.declared.Answer.{Answer}
@@ -10,6 +11,7 @@ use Rattle.cutting.specs.declared.Waiting.{Waiting}
 use Rattle.cutting.specs.Cutting.{waitingNext}
 use Rattle.segments.specs.Segments.{takeAnswer}
 use Rattle.segments.specs.Receivers.{afterTaking}
+use Rattle.segments.specs.Structs.{seen64, made64}
 use Rattle.segments.proofs.Checks.{take-below}
 use Rattle.segments.proofs.receiver64.Receiver.take.Statement.{statement}
 use Rattle.segments.proofs.receiver64.Receiver.take.Tie as tie
@@ -30,10 +32,17 @@ returns c =
     let opened = c .before .before .before in
     let x = opened .before .before .before .before .before .before .before .before .before .before .before .args in
     let r = x .self in
-    let is = opened .«open» .ensures .0 in (
-      ap₂ (λ (a : Answer) (W : Waiting). record { answer = a; receiver = record { key = r .key; nonce = r .nonce; terms = r .terms; waiting = W } }) is
-          (c .next .ensures ∙ ap (λ (a : Answer). waitingNext (r .waiting) a (x .last)) is),
-      opened .«open» .ensures .1,
+    let is = opened .«open» .ensures .0 in
+    let runs = opened .«open» .ensures .1 .0 in
+    let ran = opened .«open» .result .runs in (
+      ap₂ (λ (a : Answer) (W : Waiting). record { answer = a; runs = ran; receiver = record { key = r .key; nonce = r .nonce; terms = r .terms; waiting = W } }) is
+          (c .next .ensures ∙ ap (λ (a : Answer). waitingNext (r .waiting) a (x .last)) is)
+          ∙ ap (λ (n : ℕ). record {
+            answer = takeAnswer word64 (r .key) (r .nonce) (r .terms) (x .note .now) (r .waiting) (x .last) (x .sealed .now) (x .out .now);
+            runs = n;
+            receiver = made64 (afterTaking word64 (seen64 r) (x .note .now) (x .last) (x .sealed .now) (x .out .now));
+          }) runs,
+      opened .«open» .ensures .1 .1,
     )
 
 pub take-spec : {M : Type 1} → statement M
