@@ -22,3 +22,5 @@ echo
 $RUN "${program}_segments"
 echo
 $RUN "${program}_list"
+echo
+tests/bench_runs.sh "$archive"
