@@ -8,9 +8,10 @@ use Prim.Native.Nat.{ℕ, _+_, _/_, _≤_}
 use native.Mathlib.Omega.{arith}
 use borrow.Author.Tests.{eq-eqb, ne-eqb, eqb-true, eqb-false}
 use lib.Dec.{eqb}
-use lib.ListN.{length, replicate, length-replicate}
+use lib.ListN.{length}
 use Rattle.norx.specs.Norx.{Width, word32, word64}
 use Rattle.norx.specs.Runs.{partRuns, runsBy, sealingRuns}
+use Rattle.norx.proofs.Bytes.{zeros, length-zeros}
 use Rattle.answers.specs.declared.Answer.{Answer}
 use Rattle.answers.specs.Answers.{numberOf, runsWith}
 use Rattle.answers.proofs.Tests.{either, cond-true, cond-false}
@@ -85,13 +86,11 @@ module _ (w : Width) (l : ℕ) (ok : (l ≡ 4) ⊎ (l ≡ 6)) (key nonce header 
             ∙ ap (sealingRuns w 65536 16777216) trailer-long ∙ longest w;
       }
 
-zeros : (n : ℕ) → length {A = ℕ} (replicate n 0) ≡ n
-zeros n = length-replicate {A = ℕ} n 0
-
 reached : (w : Width) (l : ℕ) → (l ≡ 4) ⊎ (l ≡ 6) → SealingOf w l (mostRuns w)
 reached w l ok =
-    longest-reports w l ok (replicate (widthsLength w) 0) (replicate (widthsLength w) 0) (replicate 65536 0) (replicate 16777216 0) (replicate 65536 0)
-    (replicate (16777216 + widthsLength w) 0) (zeros (widthsLength w)) (zeros (widthsLength w)) (zeros 65536) (zeros 16777216) (zeros 65536) (zeros (16777216 + widthsLength w))
+    longest-reports w l ok (zeros (widthsLength w)) (zeros (widthsLength w)) (zeros 65536) (zeros 16777216) (zeros 65536) (zeros (16777216 + widthsLength w))
+    (length-zeros (widthsLength w)) (length-zeros (widthsLength w)) (length-zeros 65536) (length-zeros 16777216) (length-zeros 65536)
+    (length-zeros (16777216 + widthsLength w))
 
 never-more : (w : Width) (header body trailer : ℕ) → PartLimits header body trailer → sealingRuns w header body trailer ≤ mostRuns w
 never-more word32 header body trailer h =

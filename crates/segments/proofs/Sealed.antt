@@ -7,10 +7,11 @@ use mathlib.Core.List.{List, []}
 use Prim.Native.Nat.{ℕ, _+_, _≤_}
 use native.Mathlib.Omega.{arith}
 use borrow.Author.Tests.{ne-eqb}
-use lib.ListN.{length, replicate, length-replicate}
+use lib.ListN.{length}
 use Rattle.norx.specs.Norx.{Width, tagBits, sealed}
 use Rattle.norx.specs.Front.{frontBytes}
 use Rattle.norx.specs.Runs.{countedRuns, sealingRuns}
+use Rattle.norx.proofs.Bytes.{zeros, length-zeros}
 use Rattle.norx.proofs.Runs.{counts-sealing}
 use Rattle.answers.specs.declared.Answer.{Answer}
 use Rattle.answers.specs.declared.Answer.the-variants.{SegmentLength}
@@ -141,13 +142,10 @@ module _ (w : Width) (T : Terms) (ok : (T .rounds ≡ 4) ⊎ (T .rounds ≡ 6)) 
             ∙ ap₂ (λ (h b : ℕ). sealingRuns w h b 0) (header-long T note ∙ ap (λ (n : ℕ). 16 + n) note-long) body-long ∙ longest w;
       }
 
-zeros : (n : ℕ) → length {A = ℕ} (replicate n 0) ≡ n
-zeros n = length-replicate {A = ℕ} n 0
-
 pub largest-segment-runs : (w : Width) → LargestSegmentRuns w
 largest-segment-runs w = record {
   reached = λ T ok.
-      longest-reports w T ok (replicate (widthsLength w) 0) (replicate (jobNonceLength w) 0) (replicate 65520 0) (replicate 65536 0) (replicate (65536 + widthsLength w) 0)
-      (zeros (widthsLength w)) (zeros (jobNonceLength w)) (zeros 65520) (zeros 65536) (zeros (65536 + widthsLength w));
+      longest-reports w T ok (zeros (widthsLength w)) (zeros (jobNonceLength w)) (zeros 65520) (zeros 65536) (zeros (65536 + widthsLength w))
+      (length-zeros (widthsLength w)) (length-zeros (jobNonceLength w)) (length-zeros 65520) (length-zeros 65536) (length-zeros (65536 + widthsLength w));
   never-more = λ i last n note rule within. segment-most w note n within (rule-below i last n rule);
 }

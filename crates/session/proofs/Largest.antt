@@ -3,12 +3,13 @@
 use mathlib.Core.Path.{_≡_, refl, sym, ap, ap₂, _∙_}
 use mathlib.Core.Bool.{Bool, true, cond}
 use mathlib.Core.List.{List, [], _∷_, _++_, append-nil}
-use Prim.Native.Nat.{ℕ, zero, suc, _+_, _≤_}
+use Prim.Native.Nat.{ℕ, _+_, _≤_}
 use native.Mathlib.Omega.{arith}
 use borrow.Author.Tests.{eq-eqb}
-use lib.ListN.{length, getD, replicate, length-replicate}
+use lib.ListN.{length}
 use Rattle.norx.specs.Runs.{sealingRuns}
 use Rattle.norx.specs.Texts.{Bytes}
+use Rattle.norx.proofs.Bytes.{zeros, length-zeros, bytes-zeros}
 use Rattle.rules.specs.Limits.{widthsLength}
 use Rattle.rules.specs.Runs.{mostRuns}
 use Rattle.rules.proofs.Work.{longest}
@@ -116,17 +117,6 @@ module _ (K : Kind) (L : Lawful K) (key nonce : List ℕ) (T : Terms) (begins : 
 
 -- ---- the longest parts, of zeros
 
-zeros-are : (n : ℕ) → Bytes (replicate n 0)
-zeros-are n i = omega (arith, getD-replicate n i)
-  where
-    getD-replicate : (k j : ℕ) → _≡_ {A = ℕ} (getD (replicate k 0) j 0) 0
-    getD-replicate zero j = refl
-    getD-replicate (suc k) zero = refl
-    getD-replicate (suc k) (suc j) = getD-replicate k j
-
-zeros-long : (n : ℕ) → length {A = ℕ} (replicate n 0) ≡ n
-zeros-long n = length-replicate {A = ℕ} n 0
-
 pub largest-close : (K : Kind) → Lawful K → LargestClose K
 largest-close K L = record {
   reached = λ key nonce T begins. longest-closes key nonce T begins;
@@ -142,6 +132,6 @@ largest-close K L = record {
 
     longest-closes : (key nonce : List ℕ) (T : Terms) → Started K key nonce T → ClosesWith K key nonce T (mostRuns (K .width))
     longest-closes key nonce T begins =
-        by-lengths key nonce T begins (replicate 65520 0) (replicate 16777216 0) (replicate 65536 0) (replicate (widthsLength (K .width)) 0)
-        (zeros-are 65520) (zeros-are 16777216) (zeros-are 65536) (zeros-are (widthsLength (K .width)))
-        (zeros-long 65520) (zeros-long 16777216) (zeros-long 65536) (zeros-long (widthsLength (K .width)))
+        by-lengths key nonce T begins (zeros 65520) (zeros 16777216) (zeros 65536) (zeros (widthsLength (K .width)))
+        (bytes-zeros 65520) (bytes-zeros 16777216) (bytes-zeros 65536) (bytes-zeros (widthsLength (K .width)))
+        (length-zeros 65520) (length-zeros 16777216) (length-zeros 65536) (length-zeros (widthsLength (K .width)))

@@ -1,4 +1,4 @@
--- How often P runs in each call of a session, counted where the definitions of the calls have one; and that a close reports all that ran since the start.
+-- How often P runs in each call of a session, by lengths: once wherever the state of the session goes through P; and that a close reports all that ran since the start.
 -- Assumes nothing.
 use Prim.Native.Nat.{ℕ, zero, suc, _+_, _%_}
 use mathlib.Core.Path.{_≡_}
