@@ -6,12 +6,20 @@
 set -eu
 cd "$(dirname "$0")/.."
 
-# What differs by nature is written by hand at each width: the table of constants, and a word's load from a slice.
+# What differs by nature is written by hand at each width: the table of constants, a word's load from a slice, and the
+# shape that the compiler makes the best of: the order of columns in a step, the loop of P, and how a mark is xored in.
 # (rules/src/w32.rt and w64.rt say what a word is, and the crate words has its bytes and its rotation: they are not twins.)
 by_nature='
 crates/permutation64/src/table.rt
+crates/permutation64/src/row.rt
+crates/permutation64/src/rounds.rt
+crates/permutation64/proofs/row/row_step/Proof.antt
+crates/permutation64/proofs/rounds/permute/Proof.antt
 crates/blocks64/src/word.rt
+crates/blocks64/src/mark.rt
+crates/blocks64/specs/Marks.antt
 crates/blocks64/proofs/word/load/Proof.antt
+crates/blocks64/proofs/mark/marked/Proof.antt
 '
 
 # The padded block and its last byte are written as numbers, as the requirements' form says.

@@ -5,13 +5,18 @@ ghost use Prim.Native.Nat.{_+_, _≤_};
 ghost use lib.ListN.{length};
 ghost use Rattle.norx.specs.Lent.{was};
 ghost use Rattle.norx.specs.Turns.{withBlock, shownAt, afterAllTurns, outAfterTurns};
-ghost use Rattle.norx.specs.Norx.{word64, rate, xors, xorBlock, rateOf, marked as markedOf, entered, keyed as keyedOf};
+ghost use Rattle.norx.specs.Norx.{word64, rate, xors, xorBlock, rateOf, entered, keyed as keyedOf};
+ghost use Rattle.rules.specs.Rules.{roundsOf};
+ghost use Rattle.blocks64.specs.Marks.{IsMark, markOf};
 use super::blocks::open_block;
 use super::blocks::replaced;
 use super::blocks::seal_block;
 use super::blocks::xor_block;
+use super::mark::Mark;
+use super::mark::mark;
+use super::mark::marked;
 use super::rows::xor_row;
-use permutation64::permute;
+use permutation64::rounds::permute;
 use rules::w64::*;
 
 // Which way a text is taken in: as it is, or as the message of the ciphertext that it is.
@@ -22,18 +27,10 @@ pub const OPENING: bool = true;
 // A key that changes nothing.
 const NO_KEY: Row = [0; 4];
 
-// The mark xored into s15.
-fn marked(s: State, m: u8) -> State
-    ensures { λ q. ⌜ q ≡ markedOf m s ⌝ }
-{
-    let mut t = s;
-    t[3][3] = t[3][3] ^ (m as Word);
-    t
-}
-
 // What comes before each block: the mark, and P.
-fn marked_and_permuted(s: State, rounds: u32, m: u8) -> State
-    ensures { λ q. ⌜ q ≡ entered word64 rounds m s ⌝ }
+fn marked_and_permuted(s: State, rounds: u32, m: Mark) -> State
+    requires { ⌜ IsMark m ⌝ }
+    ensures { λ q. ⌜ q ≡ entered word64 (roundsOf word64 rounds) (markOf m) s ⌝ }
 {
     permute(marked(s, m), rounds)
 }
@@ -93,14 +90,15 @@ fn block_at(e: State, opening: bool, writing: bool, b: &[u8], out: &mut [u8], at
 fn turns_keyed(
     s: State,
     rounds: u32,
-    m: u8,
+    m: Mark,
     opening: bool,
     k: Row,
     d: &[u8],
     out: &mut [u8],
 ) -> State
-    ensures state { λ q. ⌜ q ≡ keyedOf k (afterAllTurns word64 rounds m opening s (was d)) ⌝ }
-    ensures output { λ _. ⌜ now (out .exit) ≡ outAfterTurns word64 rounds m opening s (was d) (was out) ⌝ }
+    requires { ⌜ IsMark m ⌝ }
+    ensures state { λ q. ⌜ q ≡ keyedOf k (afterAllTurns word64 (roundsOf word64 rounds) (markOf m) opening s (was d)) ⌝ }
+    ensures output { λ _. ⌜ now (out .exit) ≡ outAfterTurns word64 (roundsOf word64 rounds) (markOf m) opening s (was d) (was out) ⌝ }
 {
     let mut t = s;
     let n = d.len() / RATE;
@@ -117,31 +115,38 @@ fn turns_keyed(
 }
 
 // Every full block of a text; what the blocks give is written where the output is as long as the text, and an output of another length stays as it was.
+// A text that has none leaves the state where it is: the loop would hand it through memory once more.
 pub fn turns(s: State, rounds: u32, m: u8, opening: bool, d: &[u8], out: &mut [u8]) -> State
-    ensures state { λ q. ⌜ q ≡ afterAllTurns word64 rounds m opening s (was d) ⌝ }
-    ensures output { λ _. ⌜ now (out .exit) ≡ outAfterTurns word64 rounds m opening s (was d) (was out) ⌝ }
+    ensures state { λ q. ⌜ q ≡ afterAllTurns word64 (roundsOf word64 rounds) m opening s (was d) ⌝ }
+    ensures output { λ _. ⌜ now (out .exit) ≡ outAfterTurns word64 (roundsOf word64 rounds) m opening s (was d) (was out) ⌝ }
 {
-    turns_keyed(s, rounds, m, opening, NO_KEY, d, out)
+    if d.len() < RATE {
+        return s;
+    }
+    turns_keyed(s, rounds, mark(m), opening, NO_KEY, d, out)
 }
 
 // Every full block of a text, and then the key, with nothing written: the output has no byte, so only a text with no block is as long.
 fn unwritten_keyed(s: State, rounds: u32, m: u8, opening: bool, k: Row, d: &[u8]) -> State
-    ensures { λ q. ⌜ q ≡ keyedOf k (afterAllTurns word64 rounds m opening s (was d)) ⌝ }
+    ensures { λ q. ⌜ q ≡ keyedOf k (afterAllTurns word64 (roundsOf word64 rounds) m opening s (was d)) ⌝ }
 {
     let mut nothing = [0u8; 0];
-    turns_keyed(s, rounds, m, opening, k, d, &mut nothing)
+    turns_keyed(s, rounds, mark(m), opening, k, d, &mut nothing)
 }
 
 // Every full block of a text, with nothing written.
 pub fn unwritten(s: State, rounds: u32, m: u8, opening: bool, d: &[u8]) -> State
-    ensures { λ q. ⌜ q ≡ afterAllTurns word64 rounds m opening s (was d) ⌝ }
+    ensures { λ q. ⌜ q ≡ afterAllTurns word64 (roundsOf word64 rounds) m opening s (was d) ⌝ }
 {
+    if d.len() < RATE {
+        return s;
+    }
     unwritten_keyed(s, rounds, m, opening, NO_KEY, d)
 }
 
 // The mark, P and the key: a block of zeros changes nothing.
 pub(crate) fn enter_keyed(s: State, rounds: u32, m: u8, k: Row) -> State
-    ensures { λ q. ⌜ q ≡ keyedOf k (entered word64 rounds m s) ⌝ }
+    ensures { λ q. ⌜ q ≡ keyedOf k (entered word64 (roundsOf word64 rounds) m s) ⌝ }
 {
     let b = [0u8; RATE];
     unwritten_keyed(s, rounds, m, SEALING, k, &b)

@@ -2,7 +2,7 @@
 ghost use mathlib.Core.Path.{_≡_};
 ghost use Rattle.norx.specs.Norx.{word32};
 ghost use Rattle.dispatch.specs.Calls.{constantAt};
-use permutation32::permute;
+use permutation32::rounds::permute;
 use rules::w32::Word;
 
 // Two rounds of the state 0, 1, ..., 15.

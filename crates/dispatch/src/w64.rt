@@ -2,7 +2,7 @@
 ghost use mathlib.Core.Path.{_≡_};
 ghost use Rattle.norx.specs.Norx.{word64};
 ghost use Rattle.dispatch.specs.Calls.{constantAt};
-use permutation64::permute;
+use permutation64::rounds::permute;
 use rules::w64::Word;
 
 // Two rounds of the state 0, 1, ..., 15.

@@ -3,12 +3,12 @@
 use mathlib.Core.Path.{_≡_, refl, sym, ap, ap₂, _∙_}
 use mathlib.Core.Bool.{Bool, true, false, cond}
 use mathlib.Core.List.{List, [], _∷_, _++_}
-use Prim.Native.Nat.{ℕ, zero, suc, _+_, _*_, _≤_}
-use native.Mathlib.Nat.{zero-mul, suc-mul}
+use Prim.Native.Nat.{ℕ, zero, suc, _+_, _*_, _≤_, _<_}
+use native.Mathlib.Nat.{zero-mul, suc-mul, div-eq-of-lt}
 use native.Mathlib.Numerals.{add-one}
 use native.Mathlib.Omega.{arith}
 use borrow.Author.Tests.{eq-eqb}
-use lib.Bits.{xor-zero-r}
+use lib.Bits.{bitXor, xor-zero-r}
 use lib.Dec.{eqb}
 use lib.ListN.{length, take, drop, set, replicate, length-append, length-drop}
 use lib.Seq.{take-all, drop-drop, set-getD, length-take-le}
@@ -16,7 +16,8 @@ use Rattle.norx.specs.Norx.{Width, word32, word64, rate, wordOf, run, xo
 use Rattle.norx.proofs.Bytes.{Bytes, bytes-run}
 use Rattle.norx.proofs.Words.{length-rateOf}
 use Rattle.norx.proofs.Rate.{length-run, rate-add}
-use Rattle.norx.specs.Turns.{put, afterTurns, shown}
+use Rattle.norx.specs.Blocks.{fulls}
+use Rattle.norx.specs.Turns.{put, afterTurns, shown, afterAllTurns, outAfterTurns}
 use Rattle.norx.proofs.Slices.{put-next}
 use Rattle.norx.proofs.Owned.{four, Whole, four-rows}
 use Rattle.norx.proofs.Blocks.{after-suc, cipher-suc}
@@ -66,6 +67,22 @@ length-show true a n y out hy fits e =
     ∙ ap₂ (λ (p q : ℕ). p + q) (length-take-le a out (omega arith)) (length-append y (drop n (drop a out)))
     ∙ omega (arith, length-drop n (drop a out), length-drop a out)
 length-show false a n y out hy fits e = ap length e
+
+-- a text that has no full block
+module _ (w : Width) (l m : ℕ) (opening : Bool) (s : State) (d : List ℕ) (short : length d < rate w) where
+  none : fulls w d ≡ 0
+  none = div-eq-of-lt short
+
+  pub turns-short : s ≡ afterAllTurns w l m opening s d
+  unfolding afterTurns
+  turns-short = ap (afterTurns w l m opening s d) (sym none)
+
+  pub shown-short : (o : List ℕ) → o ≡ outAfterTurns w l m opening s d o
+  shown-short o =
+      let nothing : drop (0 * rate w) o ≡ drop 0 o = ap (λ (k : ℕ). drop k o) (zero-mul (rate w)) in
+      shown-none w l m opening s d (eqb (length o) (length d)) o
+      ∙ ap (λ (x : List ℕ). cond (eqb (length o) (length d)) (shown w l m opening s d 0 ++ x) o) (sym nothing)
+      ∙ ap (λ (n : ℕ). cond (eqb (length o) (length d)) (shown w l m opening s d n ++ drop (n * rate w) o) o) (sym none)
 
 -- what stands in an output of the text's length
 pub written : (a b : ℕ) (p q r o : List ℕ) {new : List ℕ} → a ≡ b → new ≡ cond (eqb a b) (p ++ r) o → p ≡ q → new ≡ q ++ r
@@ -123,6 +140,12 @@ unfolding marked
 unmarked s =
     ap (λ (x : ℕ). set s 3 (set (rowAt s 3) 3 x)) (xor-zero-r (wordAt (rowAt s 3) 3))
     ∙ ap (set s 3) (set-getD (rowAt s 3) 3 0) ∙ set-getD s 3 []
+
+-- a row that is zeros but for its last word, xored into row 3, is a mark
+pub marked-by-row : (w : Width) (m : ℕ) (s : State) → Whole w s → rows (rowAt s 0) (rowAt s 1) (rowAt s 2) (xorRow (rowAt s 3) (row 0 0 0 m)) ≡ marked m s
+unfolding xorRow marked
+marked-by-row w m s (four-rows {a} {b} {c} ha hb hc (four {a = x} {b = y} {c = z} {d = v} h0 h1 h2 h3)) =
+    λ k. rows a b c (row (xor-zero-r x k) (xor-zero-r y k) (xor-zero-r z k) (bitXor v m))
 
 -- the words of a row, and the rows of a state, laid out anew
 abbrev rowAgain : List ℕ → List ℕ

@@ -1,14 +1,16 @@
-// The core permutation at 32-bit words.
+// The core permutation at 32-bit words: what a round is. How a step goes over a row, and P over its rounds, is laid out for each width by itself.
 ghost use mathlib.Core.Path.{_≡_};
 ghost use mathlib.Core.List.{_∷_, []};
 ghost use lib.Bits.{bitXor};
 ghost use Prim.Native.Nat.{_<_, _%_};
-ghost use Rattle.norx.specs.Norx.{word32, bits, row, rows, wordAt, ror, H as hOf, G as gOf, onColumns, onDiagonals, F, P, constants, rowAt};
-ghost use Rattle.norx.specs.Rows.{stepped};
+ghost use Rattle.norx.specs.Norx.{word32, bits, row, wordAt, ror, H as hOf, G as gOf, onColumns, onDiagonals, F, constants, rowAt};
+use row::row_step;
 use rules::w32::*;
 use table::UPPER;
 use words::w32::rotated;
 
+pub mod rounds;
+mod row;
 mod table;
 
 fn h(x: Word, y: Word) -> Word
@@ -18,41 +20,23 @@ fn h(x: Word, y: Word) -> Word
 }
 
 // One step of G: H(x, y), and z xored with it and rotated right.
-fn step(x: Word, y: Word, z: Word, right: u32) -> [Word; 2]
+pub(crate) fn step(x: Word, y: Word, z: Word, right: u32) -> [Word; 2]
     ensures { λ r. ⌜ r ≡ hOf word32 x y ∷ ror word32 (right % bits word32) (bitXor (hOf word32 x y) z) ∷ [] ⌝ }
 {
     let n = h(x, y);
     [n, rotated(n ^ z, right)]
 }
 
-// That step in four columns at once, whose words stand in the rows x, y and z; in the order of columns that was measured to be quick.
-fn row_step(x: Row, y: Row, z: Row, right: u32) -> [Row; 2]
-    ensures { λ r. ⌜ r ≡ stepped word32 (right % bits word32) x y z ⌝ }
-{
-    let u = step(x[2], y[2], z[2], right);
-    let v = step(x[3], y[3], z[3], right);
-    let p = step(x[0], y[0], z[0], right);
-    let q = step(x[1], y[1], z[1], right);
-    let n = [p[0], q[0], u[0], v[0]];
-    let m = [p[1], q[1], u[1], v[1]];
-    [n, m]
-}
-
-// G on four columns at once, whose words stand in the rows a, b, c and d: no word waits for another column's. ad1 is the rows a and d after one step, and so on.
-fn g_columns(a: Row, b: Row, c: Row, d: Row) -> State
-    ensures { λ r. ⌜ r ≡ onColumns (gOf word32) (rows a b c d) ⌝ }
-{
-    let ad1 = row_step(a, b, d, R0);
-    let cb1 = row_step(c, ad1[1], b, R1);
-    let ad2 = row_step(ad1[0], cb1[1], ad1[1], R2);
-    let cb2 = row_step(cb1[0], ad2[1], cb1[1], R3);
-    [ad2[0], cb2[1], cb2[0], ad2[1]]
-}
-
+// G on the four columns at once, by four steps over rows: no word waits for another column's. ad1 is the rows a and d after one step, and so on.
+// The steps stand here and in diagonal_step: a function that is called from two places is not compiled into them.
 fn column_step(s: State) -> State
     ensures { λ r. ⌜ r ≡ onColumns (gOf word32) s ⌝ }
 {
-    g_columns(s[0], s[1], s[2], s[3])
+    let ad1 = row_step(s[0], s[1], s[3], R0);
+    let cb1 = row_step(s[2], ad1[1], s[1], R1);
+    let ad2 = row_step(ad1[0], cb1[1], ad1[1], R2);
+    let cb2 = row_step(cb1[0], ad2[1], cb1[1], R3);
+    [ad2[0], cb2[1], cb2[0], ad2[1]]
 }
 
 // The words of a row at the places i, j, k and m.
@@ -70,32 +54,21 @@ fn diagonal_step(s: State) -> State
     let b = picked(s[1], 1, 2, 3, 0);
     let c = picked(s[2], 2, 3, 0, 1);
     let d = picked(s[3], 3, 0, 1, 2);
-    let t = g_columns(s[0], b, c, d);
-    let r0 = t[0];
-    let r1 = picked(t[1], 3, 0, 1, 2);
-    let r2 = picked(t[2], 2, 3, 0, 1);
-    let r3 = picked(t[3], 1, 2, 3, 0);
+    let ad1 = row_step(s[0], b, d, R0);
+    let cb1 = row_step(c, ad1[1], b, R1);
+    let ad2 = row_step(ad1[0], cb1[1], ad1[1], R2);
+    let cb2 = row_step(cb1[0], ad2[1], cb1[1], R3);
+    let r0 = ad2[0];
+    let r1 = picked(cb2[1], 3, 0, 1, 2);
+    let r2 = picked(cb2[0], 2, 3, 0, 1);
+    let r3 = picked(ad2[1], 1, 2, 3, 0);
     [r0, r1, r2, r3]
 }
 
-fn round(s: State) -> State
+pub(crate) fn round(s: State) -> State
     ensures { λ r. ⌜ r ≡ F word32 s ⌝ }
 {
     diagonal_step(column_step(s))
-}
-
-// P: as many rounds as are asked.
-pub fn permute(s: State, rounds: u32) -> State
-    ensures { λ r. ⌜ r ≡ P word32 rounds s ⌝ }
-{
-    let mut t = s;
-    let mut i = 0;
-    while i < rounds {
-        let n = round(t);
-        t = n;
-        i += 1;
-    }
-    t
 }
 
 // The constants that a start lays into the rows 2 and 3.

@@ -52,6 +52,14 @@ sound-counts p e =
 pub sound-noted : (p : Place) → soundOf p ≡ true → p .note ≤ limitOf Note
 sound-noted p e = sound-counts p e .0
 
+terms-at : (s : Standing) (p : Place) → soundAt s p ≡ true → termsOk (p .terms) ≡ true
+terms-at Closed p e = absurd (false≢true e)
+terms-at (Open part) p e = both (termsOk (p .terms)) (countsWithin p) (both (termsOk (p .terms) && countsWithin p) (unreachedOf p part) e .0) .0
+
+pub sound-terms : (p : Place) → soundOf p ≡ true → termsOk (p .terms) ≡ true
+unfolding soundOf
+sound-terms p e = terms-at (p .standing) p e
+
 pub startable : (row : ℕ) (T : Terms) (key nonce : ℕ) → doneOf (startAnswer row T key nonce) ≡ true → (termsOk T ≡ true) × (key ≡ row) × (nonce ≡ row)
 unfolding startAnswer
 startable row T key nonce h =
@@ -86,6 +94,7 @@ accepted p label n exact h =
       sound = sound .0;
       onward = onward .0;
       noted = sound-noted p (sound .0);
+      termed = sound-terms p (sound .0);
       room = leb-true _ _ (room .0);
       fits = passed _ _ _ refl (room .1) .0;
     }
@@ -112,12 +121,13 @@ accepts p label n exact sound own onward at room fits =
     let enough : leb (countOf p (label .part) + n) (limitOf (label .part)) ≡ true = le-leb _ _ room in
     rw (sound, own, edition-own (p .terms .edition), onward, here, enough, fits)
 
-pub closable : (p : Place) (edition : Edition) (wanted tag : ℕ) → doneOf (closeAnswer p edition wanted tag) ≡ true → (p .note ≤ limitOf Note) × (tag ≡ wanted)
+pub closable : (p : Place) (edition : Edition) (wanted tag : ℕ) → doneOf (closeAnswer p edition wanted tag) ≡ true
+    → (p .note ≤ limitOf Note) × (termsOk (p .terms) ≡ true) × (tag ≡ wanted)
 unfolding closeAnswer
 closable p edition wanted tag h =
     let sound = passed _ _ _ refl h in
     let within = passed _ _ _ refl (edition-passed edition (p .terms .edition) _ (sound .1)) in
-    (sound-noted p (sound .0), eqb-true tag wanted (passed _ _ _ refl (within .1) .0))
+    (sound-noted p (sound .0), sound-terms p (sound .0), eqb-true tag wanted (passed _ _ _ refl (within .1) .0))
 
 pub closable-own : (p : Place) (edition : Edition) (wanted tag : ℕ) → doneOf (closeAnswer p edition wanted tag) ≡ true → (soundOf p ≡ true) × (edition ≡ p .terms .edition)
 unfolding closeAnswer

@@ -129,5 +129,6 @@ pub record Accepted (p : Place) (part : Part) (n : ℕ) (exact : Bool) : Type 0 
   pub sound : soundOf p ≡ true
   pub onward : leb (presentOf (p .standing)) (rankOf part) ≡ true
   pub noted : p .note ≤ limitOf Note
+  pub termed : termsOk (p .terms) ≡ true
   pub room : countOf p part + n ≤ limitOf part
   pub fits : exact ≡ true

@@ -3,7 +3,7 @@
 use mathlib.Core.Path.{_≡_, refl, sym, ap, _∙_}
 use mathlib.Core.Bool.{true, _&&_}
 use mathlib.Core.Logic.{_⊎_, inl, inr, _↔_, _≢_}
-use Prim.Native.Nat.{ℕ, _+_, _-_, _<_}
+use Prim.Native.Nat.{ℕ, suc, _+_, _-_, _<_}
 use native.Mathlib.Omega.{arith}
 use borrow.Author.Tests.{le-leb, leb-true, eq-eqb, eqb-true}
 use lib.Dec.{leb, eqb}
@@ -12,7 +12,7 @@ use Rattle.answers.specs.declared.Answer.{Answer}
 use Rattle.answers.specs.declared.Answer.the-variants.{Done, KeyLength, RoundsNumber, TagLength, OverLimit, OutputLength}
 use Rattle.answers.specs.Answers.{numberOf, doneOf}
 use Rattle.answers.proofs.Chain.{done-zero, zero-done, passed, passes, link-not, both, and-true, one-of}
-use Rattle.rules.specs.Rules.{longestHeader, longestBody, longestTrailer, within, roundsOk, lengthsOk, tagBytes}
+use Rattle.rules.specs.Rules.{longestHeader, longestBody, longestTrailer, within, roundsOk, roundsOf, lengthsOk, tagBytes}
 use Rattle.rules.specs.Calls.{sealChecks, openChecks}
 use Rattle.rules.specs.Limits.{widthsLength, StartLimits, PartLimits, SealLimits, OpenLimits}
 
@@ -36,6 +36,24 @@ rounds-from l e = go (one-of (eqb l 4) (eqb l 6) e)
 pub rounds-to : (l : ℕ) → (l ≡ 4) ⊎ (l ≡ 6) → roundsOk l ≡ true
 rounds-to l (inl h) = ap roundsOk h
 rounds-to l (inr h) = ap roundsOk h
+
+-- where the rounds are 4 or 6, the code of P does as many as are asked
+pub rounds-asked : (w : Width) (l : ℕ) → roundsOk l ≡ true → roundsOf w l ≡ l
+rounds-asked word64 l e = refl
+rounds-asked word32 l e = go (rounds-from l e)
+  where
+    go : (l ≡ 4) ⊎ (l ≡ 6) → suc (l - 1) ≡ l
+    go (inl h) = omega arith
+    go (inr h) = omega arith
+
+module _ (row tag l key nonce header text trailer out : ℕ) where
+  pub seal-rounds : doneOf (sealChecks row tag l key nonce header text trailer out) ≡ true → roundsOk l ≡ true
+  unfolding sealChecks
+  seal-rounds e = passed (roundsOk l) RoundsNumber _ refl e .0
+
+  pub open-rounds : doneOf (openChecks row tag l key nonce header text trailer out) ≡ true → roundsOk l ≡ true
+  unfolding openChecks
+  open-rounds e = passed (roundsOk l) RoundsNumber _ refl e .0
 
 module _ (w : Width) (key nonce : ℕ) where
   lengths-from : lengthsOk (rowBytes w) key nonce ≡ true → (key ≡ widthsLength w) × (nonce ≡ widthsLength w)

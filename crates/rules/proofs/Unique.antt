@@ -17,9 +17,15 @@ use Rattle.rules.proofs.calls.seal_checks.Reads.{Post as Post-seal-chec
 use Rattle.rules.proofs.calls.open_checks.{signature as signature-open-checks}
 use Rattle.rules.proofs.calls.open_checks.Kinds as kinds-open-checks
 use Rattle.rules.proofs.calls.open_checks.Reads.{Post as Post-open-checks}
+use Rattle.rules.proofs.w32.rounds_of.{signature as signature-w32-rounds-of}
+use Rattle.rules.proofs.w32.rounds_of.Kinds as kinds-w32-rounds-of
+use Rattle.rules.proofs.w32.rounds_of.Reads.{Post as Post-w32-rounds-of}
 use Rattle.rules.proofs.w32.runs.{signature as signature-w32-runs}
 use Rattle.rules.proofs.w32.runs.Kinds as kinds-w32-runs
 use Rattle.rules.proofs.w32.runs.Reads.{Post as Post-w32-runs}
+use Rattle.rules.proofs.w64.rounds_of.{signature as signature-w64-rounds-of}
+use Rattle.rules.proofs.w64.rounds_of.Kinds as kinds-w64-rounds-of
+use Rattle.rules.proofs.w64.rounds_of.Reads.{Post as Post-w64-rounds-of}
 use Rattle.rules.proofs.w64.runs.{signature as signature-w64-runs}
 use Rattle.rules.proofs.w64.runs.Kinds as kinds-w64-runs
 use Rattle.rules.proofs.w64.runs.Reads.{Post as Post-w64-runs}
@@ -40,9 +46,17 @@ pub one-open-checks : (κs : Lfts 0) (a : ArgsD signature-open-checks κs) (r r�
     → Post-open-checks κs a r s → Post-open-checks κs a r′ s′ → r ≡ r′
 one-open-checks κs a r r′ s s′ p q = p ∙ sym q
 
+pub one-rounds-of-32 : (κs : Lfts 0) (a : ArgsD signature-w32-rounds-of κs) (r r′ : ResD signature-w32-rounds-of κs) (s s′ : AtExit (endedOf 0 kinds-w32-rounds-of.ps kinds-w32-rounds-of.r) κs)
+    → Post-w32-rounds-of κs a r s → Post-w32-rounds-of κs a r′ s′ → r ≡ r′
+one-rounds-of-32 κs a r r′ s s′ p q = p ∙ sym q
+
 pub one-runs-32 : (κs : Lfts 0) (a : ArgsD signature-w32-runs κs) (r r′ : ResD signature-w32-runs κs) (s s′ : AtExit (endedOf 0 kinds-w32-runs.ps kinds-w32-runs.r) κs)
     → Post-w32-runs κs a r s → Post-w32-runs κs a r′ s′ → r ≡ r′
 one-runs-32 κs a r r′ s s′ p q = p ∙ sym q
+
+pub one-rounds-of-64 : (κs : Lfts 0) (a : ArgsD signature-w64-rounds-of κs) (r r′ : ResD signature-w64-rounds-of κs) (s s′ : AtExit (endedOf 0 kinds-w64-rounds-of.ps kinds-w64-rounds-of.r) κs)
+    → Post-w64-rounds-of κs a r s → Post-w64-rounds-of κs a r′ s′ → r ≡ r′
+one-rounds-of-64 κs a r r′ s s′ p q = p ∙ sym q
 
 pub one-runs-64 : (κs : Lfts 0) (a : ArgsD signature-w64-runs κs) (r r′ : ResD signature-w64-runs κs) (s s′ : AtExit (endedOf 0 kinds-w64-runs.ps kinds-w64-runs.r) κs)
     → Post-w64-runs κs a r s → Post-w64-runs κs a r′ s′ → r ≡ r′

@@ -1,9 +1,9 @@
 -- The numbers that rule every call. Those of a width, the marks and the tag bits are in Norx.antt, and the front's length in Front.antt.
 -- Assumes nothing.
 use mathlib.Core.Bool.{Bool, _&&_, _||_}
-use Prim.Native.Nat.{ℕ, _-_, _/_}
+use Prim.Native.Nat.{ℕ, suc, _-_, _/_}
 use lib.Dec.{leb, eqb}
-use Rattle.norx.specs.Norx.{Width, tagBits}
+use Rattle.norx.specs.Norx.{Width, word32, word64, tagBits}
 use Rattle.norx.specs.Front.{frontBytes}
 
 -- header and trailer 0 to 65,536 bytes each; body 0 to 16,777,216
@@ -37,6 +37,11 @@ within header body trailer = leb header longestHeader && leb body longestBody &&
 -- rounds are 4 or 6
 abbrev pub roundsOk : ℕ → Bool
 roundsOk l = eqb l 4 || eqb l 6
+
+-- how many rounds the code of P does where l are asked: l, and at 32-bit words one at least
+abbrev pub roundsOf : Width → ℕ → ℕ
+roundsOf word32 l = suc (l - 1)
+roundsOf word64 l = l
 
 -- a key and a nonce have the length of a row
 abbrev pub lengthsOk : ℕ → ℕ → ℕ → Bool

@@ -18,9 +18,10 @@ use Rattle.answers.proofs.Chain.{link, passed, both}
 use Rattle.rules.specs.Rules.{tagBytes, segmentBytes, mostSegments}
 use Rattle.rules.specs.Calls.{Exact, sealChecks, openChecks}
 use Rattle.rules.specs.OneCall.{sealAnswer, sealOut, checked, tagAnswer, tagOut, openAnswer, openOut}
+use Rattle.rules.proofs.Limits.{seal-rounds, open-rounds}
 use Rattle.rules.proofs.Lengths.{seal-exact, open-exact}
 use Rattle.places.specs.declared.terms.Terms.{Terms}
-use Rattle.places.specs.Terms.{frontOf}
+use Rattle.places.specs.Terms.{frontOf, termsOk}
 use Rattle.places.proofs.Editions.{front-long}
 use Rattle.cutting.specs.declared.Waiting.{Waiting}
 use Rattle.cutting.specs.Cutting.{segmentOk, sealedOk, segmentNumber, takeLinks}
@@ -69,12 +70,15 @@ module _ (w : Width) (key nonce : List ℕ) (T : Terms) (note : List ℕ) (i : �
   unfolding segmentAnswer
   segment-passed e = passed (segmentOk i last (length text)) SegmentLength _ refl e
 
-  pub segment-exact : doneOf (segmentAnswer w key nonce T note i last text out) ≡ true
-      → Exact (rowBytes w) (tagBytes w) (length key) (length nonce + 8) (length text) (length out)
+  pub segment-fits : doneOf (segmentAnswer w key nonce T note i last text out) ≡ true
+      → Exact (rowBytes w) (tagBytes w) (length key) (length nonce + 8) (length text) (length out) × (termsOk T ≡ true)
   unfolding sealAnswer
-  segment-exact e =
-      let exact = seal-exact (rowBytes w) (tagBytes w) (T .rounds) (length key) (length own) (length header) (length text) 0 (length out) (segment-passed e .1) in
-      record { key-long = exact .key-long; nonce-long = sym (nonce-long nonce i last) ∙ exact .nonce-long; text-long = exact .text-long }
+  segment-fits e =
+      let one = segment-passed e .1 in
+      let exact = seal-exact (rowBytes w) (tagBytes w) (T .rounds) (length key) (length own) (length header) (length text) 0 (length out) one in (
+        record { key-long = exact .key-long; nonce-long = sym (nonce-long nonce i last) ∙ exact .nonce-long; text-long = exact .text-long },
+        seal-rounds (rowBytes w) (tagBytes w) (T .rounds) (length key) (length own) (length header) (length text) 0 (length out) one,
+      )
 
   pub segment-sealed : doneOf (segmentAnswer w key nonce T note i last text out) ≡ true
       → segmentOut w key nonce T note i last text out ≡ sealed w (T .rounds) (tagBits w) key (segmentNonce nonce i last) (segmentHeader T note) text []
@@ -144,10 +148,13 @@ module _ (w : Width) (key nonce : List ℕ) (T : Terms) (note : List ℕ) (W : W
       let b = passed (sealedOk (W .index) last (tagBytes w) (length text)) SegmentLength _ refl (a .1) in
       ((a .0, b .0), b .1)
 
-  pub take-exact : doneOf numbers ≡ true → Exact (rowBytes w) (tagBytes w) (length key) (length nonce + 8) (length out) (length text)
-  take-exact e =
-      let exact = open-exact (rowBytes w) (tagBytes w) (T .rounds) (length key) (length its-own) (length its-header) (length text) 0 (length out) (take-passed e .1) in
-      record { key-long = exact .key-long; nonce-long = sym (nonce-long nonce (W .index) last) ∙ exact .nonce-long; text-long = exact .text-long }
+  pub take-fits : doneOf numbers ≡ true → Exact (rowBytes w) (tagBytes w) (length key) (length nonce + 8) (length out) (length text) × (termsOk T ≡ true)
+  take-fits e =
+      let one = take-passed e .1 in
+      let exact = open-exact (rowBytes w) (tagBytes w) (T .rounds) (length key) (length its-own) (length its-header) (length text) 0 (length out) one in (
+        record { key-long = exact .key-long; nonce-long = sym (nonce-long nonce (W .index) last) ∙ exact .nonce-long; text-long = exact .text-long },
+        open-rounds (rowBytes w) (tagBytes w) (T .rounds) (length key) (length its-own) (length its-header) (length text) 0 (length out) one,
+      )
 
   -- the tag decides where no number refuses, and else their answer stands and the output as it was
   pub take-tag : doneOf numbers ≡ true

@@ -83,7 +83,7 @@ module _ (K : Kind) (L : Lawful K) (key nonce : List ℕ) (T : Terms) (begins : 
       let is : K .place (afterStart K key nonce T qs) ≡ place = ap (λ (s : K .Session). K .place s) (session-is K L key nonce T begins qs) ∙ place-held K L key nonce T part n b t in
       let done : doneOf (closeAnswer place (c .edition) (tagLength K) (length (c .tag))) ≡ true =
       sym (ap (λ (p : Place). doneOf (closeAnswer p (c .edition) (tagLength K) (length (c .tag)))) is) ∙ h in
-      (closable-own place (c .edition) (tagLength K) (length (c .tag)) done .1, closable place (c .edition) (tagLength K) (length (c .tag)) done .1)
+      (closable-own place (c .edition) (tagLength K) (length (c .tag)) done .1, closable place (c .edition) (tagLength K) (length (c .tag)) done .2)
 
   pub own-closes : (c : Close) → c .edition ≡ T .edition → length (c .tag) ≡ tagLength K
       → (numberOf (K .answer (closeOf K (afterStart K key nonce T qs) (c .edition) (c .tag))) ≡ 0) ⊎ (numberOf (K .answer (closeOf K (afterStart K key nonce T qs) (c .edition) (c .tag))) ≡ 10)

@@ -12,6 +12,7 @@ use Rattle.answers.specs.declared.Answer.{Answer}
 use Rattle.answers.specs.Answers.{doneOf}
 use Rattle.places.specs.declared.terms.Edition.{Edition}
 use Rattle.places.specs.declared.terms.Terms.{Terms}
+use Rattle.places.specs.Terms.{termsOk}
 use Rattle.places.specs.declared.Part.the-variants.{Note}
 use Rattle.places.specs.declared.Label.{Label}
 use Rattle.places.specs.declared.Place.{Place}
@@ -34,9 +35,9 @@ module _ (K : Kind) where
   -- ---- start
 
   module _ (key nonce : List ℕ) (T : Terms) (a : Answer) (f : Bool) (ea : a ≡ startAnswer (rowBytes (K .width)) T (length key) (length nonce)) (ef : f ≡ doneOf a) where
-    pub start-lengths : f ≡ true → (length key ≡ rowBytes (K .width)) × (length nonce ≡ rowBytes (K .width))
-    start-lengths h =
-        let e = startable (rowBytes (K .width)) T (length key) (length nonce) (sym (ap doneOf ea) ∙ sym ef ∙ h) in (e .1, e .2)
+    pub start-fits : f ≡ true → (length key ≡ rowBytes (K .width)) × (length nonce ≡ rowBytes (K .width)) × (termsOk T ≡ true)
+    start-fits h =
+        let e = startable (rowBytes (K .width)) T (length key) (length nonce) (sym (ap doneOf ea) ∙ sym ef ∙ h) in (e .1, e .2, e .0)
 
     pub start-done : f ≡ true → (t : K .Session) → t ≡ freshOf K key nonce T → K .step a t ≡ startOf K key nonce T
     unfolding startOf
@@ -141,7 +142,7 @@ module _ (K : Kind) (s : K .Session) (edition : Edition) (tag : List ℕ) (found
   unfolding closeAnswerOf
   closing = found .answer-is ∙ ap (λ (q : Place). closeAnswer q edition (tagLength K) (length tag)) (found .place-is)
 
-  pub close-fits : found .done ≡ true → (found .place .note ≤ limitOf Note) × (length tag ≡ tagLength K)
+  pub close-fits : found .done ≡ true → (found .place .note ≤ limitOf Note) × (termsOk (found .place .terms) ≡ true) × (length tag ≡ tagLength K)
   close-fits h = closable (found .place) edition (tagLength K) (length tag) (sym (ap doneOf (found .answer-is)) ∙ sym (found .done-is) ∙ h)
 
   -- the tag that was worked out is the session's own

@@ -5,6 +5,7 @@ ghost use mathlib.Core.Path.{_≡_};
 ghost use lib.ListN.{length};
 ghost use Rattle.norx.specs.Lent.{was};
 ghost use Rattle.norx.specs.Norx.{word32, rowBytes};
+ghost use Rattle.places.specs.Terms.{termsOk};
 ghost use Rattle.places.specs.Places.{Accepted};
 ghost use Rattle.session.specs.Sessions.{checking, flatOf, takenAt, closedOf, freshOf, startOf, pieceOf, closeOf, closeRuns};
 ghost use Rattle.session32.specs.Kinds.{checking32, checkingPlace, checkingMade, checkingClose};
@@ -209,7 +210,7 @@ impl Checking {
 
     // Open in the note, with nothing of it yet.
     fn fresh(key: &[u8], nonce: &[u8], terms: Terms) -> Checking
-        requires { ⌜ (length (now key) ≡ rowBytes word32) × (length (now nonce) ≡ rowBytes word32) ⌝ }
+        requires { ⌜ (length (now key) ≡ rowBytes word32) × (length (now nonce) ≡ rowBytes word32) × (termsOk terms ≡ true) ⌝ }
         ensures { λ r. ⌜ r ≡ freshOf checking32 (was key) (was nonce) terms ⌝ }
     {
         let k = row(key);

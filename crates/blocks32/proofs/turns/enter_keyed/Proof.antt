@@ -6,6 +6,7 @@ use lib.ListN.{replicate}
 use Rattle.norx.specs.Norx.{word32, rate, keyed}
 use Rattle.norx.proofs.Owned.{whole-owned}
 use Rattle.norx.proofs.Turns.{turns-one, entered-zeros}
+use Rattle.rules.specs.Rules.{roundsOf}
 use Rattle.blocks32.proofs.turns.enter_keyed.Statement.{statement}
 use Rattle.blocks32.proofs.turns.enter_keyed.Tie as tie
 
@@ -14,8 +15,8 @@ returns c =
     let start = c .before .before in
     let x = start .args in
     c .unwritten-keyed .ensures
-    ∙ ap (keyed (x .k)) (turns-one word32 (x .rounds) (x .m) (x .s) (replicate (rate word32) 0) refl
-    ∙ entered-zeros word32 (x .rounds) (x .m) (x .s) (whole-owned word32 (x .s) _ (start .good .0)))
+    ∙ ap (keyed (x .k)) (turns-one word32 (roundsOf word32 (x .rounds)) (x .m) (x .s) (replicate (rate word32) 0) refl
+    ∙ entered-zeros word32 (roundsOf word32 (x .rounds)) (x .m) (x .s) (whole-owned word32 (x .s) _ (start .good .0)))
 
 pub enter-keyed-spec : {M : Type 1} → statement M
 enter-keyed-spec = tie.close (tie.spec (λ c. search needs) (λ c κs. search needs) returns)

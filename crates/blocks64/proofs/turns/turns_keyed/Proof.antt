@@ -14,12 +14,14 @@ use Rattle.norx.proofs.Words.{length-rateOf}
 use Rattle.norx.proofs.Slices.{cut}
 use Rattle.norx.specs.Turns.{afterTurns, shown}
 use Rattle.norx.proofs.Turns.{shown-none, turns-next, shown-next, length-show}
+use Rattle.rules.specs.Rules.{roundsOf}
+use Rattle.blocks64.specs.Marks.{markOf}
 use Rattle.blocks64.proofs.turns.turns_keyed.Statement.{statement}
 use Rattle.blocks64.proofs.turns.turns_keyed.Tie as tie
 
 abbrev Inv-loop : tie.InvT-loop
 Inv-loop rounds m opening k d out₀ t₀ n writing i₀ out t i =
-    (i ≤ n) × (t ≡ afterTurns word64 rounds m opening t₀ d i) × (out ≡ cond writing (shown word64 rounds m opening t₀ d i ++ drop (i * rate word64) out₀) out₀)
+    (i ≤ n) × (t ≡ afterTurns word64 (roundsOf word64 rounds) (markOf m) opening t₀ d i) × (out ≡ cond writing (shown word64 (roundsOf word64 rounds) (markOf m) opening t₀ d i ++ drop (i * rate word64) out₀) out₀)
     × (length out ≡ length out₀)
 
 abbrev μ-loop : tie.MeasureT-loop
@@ -29,7 +31,7 @@ loop-holds : tie.Need-loop-holds Inv-loop μ-loop
 unfolding afterTurns
 loop-holds c =
     let x = c .before .before .args in
-    (search needs, refl, shown-none word64 (x .rounds) (x .m) (x .opening) (x .s) (x .d .now) (eqb (length (x .out .now)) (length (x .d .now))) (x .out .now), refl)
+    (search needs, refl, shown-none word64 (roundsOf word64 (x .rounds)) (markOf (x .m)) (x .opening) (x .s) (x .d .now) (eqb (length (x .out .now)) (length (x .d .now))) (x .out .now), refl)
 
 block-at-requires : tie.Need-block-at-requires Inv-loop μ-loop
 block-at-requires c κs =
@@ -47,9 +49,9 @@ loop-again c =
     let writing : Bool = eqb (length (x .out .now)) (length d) in
     let e = mixed .marked-and-permuted .ensures in
     let part = cut (rate word64) (i * rate word64) d in
-    let next = turns-next word64 (x .rounds) (x .m) (x .opening) (x .s) d i (at-loop .loop .inv .1) e part (taken-in .block-at .ensures .0) in
+    let next = turns-next word64 (roundsOf word64 (x .rounds)) (markOf (x .m)) (x .opening) (x .s) d i (at-loop .loop .inv .1) e part (taken-in .block-at .ensures .0) in
     let text =
-    shown-next word64 (x .rounds) (x .m) (x .opening) (x .s) d i (at-loop .loop .inv .1) e part writing (x .out .now) (at-loop .loop .inv .2) (taken-in .block-at .ensures .1) in
+    shown-next word64 (roundsOf word64 (x .rounds)) (markOf (x .m)) (x .opening) (x .s) d i (at-loop .loop .inv .1) e part writing (x .out .now) (at-loop .loop .inv .2) (taken-in .block-at .ensures .1) in
     let same =
     length-show writing (i * rate word64) (rate word64) (rateOf word64 (xorBlock word64 (mixed .marked-and-permuted .result) _)) (at-loop .loop .out) (length-rateOf word64 _)
     (λ e. omega (arith, eqb-true (length (x .out .now)) (length d) e)) (taken-in .block-at .ensures .1) in

@@ -1,13 +1,15 @@
 -- `sealing::w64::open` goes by its checks.
 -- Assumes nothing.
+use mathlib.Core.Path.{_≡_}
 use borrow.Author.Needs.{needs}
 use borrow.Author.Tests.{not-true, not-false}
 use lib.ListN.{length}
 use Rattle.norx.specs.Norx.{word64, rowBytes}
 use Rattle.norx.specs.Texts.{Bytes}
 use Rattle.answers.proofs.Chain.{tested}
-use Rattle.rules.specs.Rules.{tagBytes}
+use Rattle.rules.specs.Rules.{roundsOf, tagBytes}
 use Rattle.rules.proofs.Lengths.{open-exact}
+use Rattle.rules.proofs.Limits.{rounds-asked, open-rounds}
 use Rattle.rules.specs.OneCall.{openAnswer, openOut}
 use Rattle.sealing.proofs.Demand.{open-ensures}
 use Rattle.sealing.proofs.w64.open.Statement.{statement}
@@ -40,9 +42,13 @@ returns-2 c =
     let check = test .before .before in
     let e = tested (check .open-checks .ensures) (test .before .done .ensures) (not-false _ (test .if1 .left)) in
     let x = check .before .before .before .before .before .before .before .before .args in
+    let asked : roundsOf word64 (x .rounds) ≡ x .rounds =
+    rounds-asked word64 (x .rounds)
+    (open-rounds (rowBytes word64) (tagBytes word64) (x .rounds) (length (x .key .now)) (length (x .nonce .now)) (length (x .header .now))
+    (length (x .sealed .now)) (length (x .trailer .now)) (length (x .out .now)) e) in
     let bytes : Bytes (x .sealed .now) = λ i. check .before .before .before .before .shared-slice-known4 .given i .fits in
     open-ensures word64 (x .rounds) (x .key .now) (x .nonce .now) (x .header .now) (x .sealed .now) (x .trailer .now) (x .out .now) bytes
-    (rw e (call .open-checked .ensures .0)) (check .before .runs .ensures) (c .reported2 .ensures) (rw e (call .open-checked .ensures .1))
+    (rw e (rw asked at (call .open-checked .ensures .0))) (check .before .runs .ensures) (c .reported2 .ensures) (rw e (rw asked at (call .open-checked .ensures .1)))
 
 pub open-spec : {M : Type 1} → statement M
 open-spec =

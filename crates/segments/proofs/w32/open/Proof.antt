@@ -6,7 +6,7 @@ use borrow.Author.Tests.{not-true, not-false}
 use Rattle.norx.specs.Norx.{word32}
 use Rattle.answers.specs.declared.Outcome.{Outcome}
 use Rattle.answers.proofs.Chain.{tested}
-use Rattle.segments.proofs.Checks.{take-chain, take-exact, take-tag, take-numbers}
+use Rattle.segments.proofs.Checks.{take-chain, take-fits, take-tag, take-numbers}
 use Rattle.segments.proofs.Taking.{take-reports}
 use Rattle.segments.proofs.w32.open.Statement.{statement}
 use Rattle.segments.proofs.w32.open.Tie as tie
@@ -41,7 +41,7 @@ open-checked-requires c κs =
     take-chain word32 (x .key .now) (x .nonce .now) (x .terms) (x .note .now) (x .waiting) (x .last) (x .sealed .now) (x .out .now)
     (check .open-checks .ensures) (links .take-links .ensures) in
     let e = tested numbers (c .before .before .done .ensures) (not-false _ (c .before .if1 .left)) in
-    take-exact word32 (x .key .now) (x .nonce .now) (x .terms) (x .note .now) (x .waiting) (x .last) (x .sealed .now) (x .out .now) e
+    take-fits word32 (x .key .now) (x .nonce .now) (x .terms) (x .note .now) (x .waiting) (x .last) (x .sealed .now) (x .out .now) e
 
 -- the tag decides only where no number refuses
 returns-2 : tie.Need-returns-2

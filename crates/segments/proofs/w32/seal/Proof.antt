@@ -6,7 +6,7 @@ use borrow.Author.Tests.{not-true, not-false}
 use Rattle.norx.specs.Norx.{word32}
 use Rattle.answers.specs.declared.Outcome.{Outcome}
 use Rattle.answers.proofs.Chain.{tested}
-use Rattle.segments.proofs.Checks.{segment-chain, segment-exact, segment-sealed, segment-kept}
+use Rattle.segments.proofs.Checks.{segment-chain, segment-fits, segment-sealed, segment-kept}
 use Rattle.segments.proofs.Sealed.{segment-reports}
 use Rattle.segments.proofs.w32.seal.Statement.{statement}
 use Rattle.segments.proofs.w32.seal.Tie as tie
@@ -39,7 +39,7 @@ seal-checked-requires c κs =
     segment-chain word32 (x .key .now) (x .nonce .now) (x .terms) (x .note .now) (x .index) (x .last) (x .body .now) (x .out .now)
     (check .seal-checks .ensures) (need-at .before .segment-ok .ensures) (need-at .need .ensures) in
     let e = tested answer (c .before .before .done .ensures) (not-false _ (c .before .if1 .left)) in
-    segment-exact word32 (x .key .now) (x .nonce .now) (x .terms) (x .note .now) (x .index) (x .last) (x .body .now) (x .out .now) e
+    segment-fits word32 (x .key .now) (x .nonce .now) (x .terms) (x .note .now) (x .index) (x .last) (x .body .now) (x .out .now) e
 
 returns-2 : tie.Need-returns-2
 returns-2 c =

@@ -1,5 +1,8 @@
 -- `segments::w64::before_body`: the start, the front, the note, and their end.
 -- Assumes nothing.
+use mathlib.Core.Path.{_≡_}
+use Rattle.rules.specs.Rules.{roundsOf}
+use Rattle.rules.proofs.Limits.{rounds-asked}
 use borrow.Author.Needs.{needs}
 use Rattle.norx.specs.Norx.{word64}
 use Rattle.norx.specs.Texts.{Bytes}
@@ -14,9 +17,10 @@ returns c =
     let front-at = start-at .before .before in
     let begin = front-at .before .before .before in
     let x = begin .args in
+    let asked : roundsOf word64 (x .terms .rounds) ≡ x .terms .rounds = rounds-asked word64 (x .terms .rounds) (begin .pre .1) in
     let bytes : Bytes (x .note .now) = λ i. front-at .before .shared-slice-known2 .given i .fits in
-    header-of word64 (x .terms) (x .key) (x .nonce .now) (x .note .now) bytes (begin .pre)
-    (front-at .front .ensures) (start-at .before .row .ensures) (start-at .start .ensures) (feed-at .feed .ensures) (c .before .feed2 .ensures) (c .end .ensures)
+    header-of word64 (x .terms) (x .key) (x .nonce .now) (x .note .now) bytes (begin .pre .0)
+    (front-at .front .ensures) (start-at .before .row .ensures) (rw asked at (start-at .start .ensures)) (rw asked at (feed-at .feed .ensures)) (rw asked at (c .before .feed2 .ensures)) (rw asked at (c .end .ensures))
 
 pub before-body-spec : {M : Type 1} → statement M
 before-body-spec = tie.close (tie.spec (λ c κs. search needs) (λ c κs. search needs) (λ c κs. search needs) (λ c. search needs) (λ c κs. search needs) (λ c κs. search needs) (λ c. search needs) (λ c κs. search needs) returns)

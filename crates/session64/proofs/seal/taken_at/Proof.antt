@@ -1,9 +1,12 @@
 -- `session64::seal::taken_at`: the parts before the piece are ended, and the piece is taken in.
 -- Assumes nothing.
+use mathlib.Core.Path.{_≡_}
 use Rattle.norx.specs.Norx.{word64}
 use Rattle.places.specs.declared.Part.the-variants.{Note, Trailer}
 use Rattle.session.specs.Sessions.{sealing}
 use Rattle.session.proofs.Parts.{taken-at-of, sealed-taken-at, sealed-wrote}
+use Rattle.rules.specs.Rules.{roundsOf}
+use Rattle.rules.proofs.Limits.{rounds-asked}
 use borrow.Author.Needs.{needs}
 use Rattle.session64.proofs.seal.taken_at.Statement.{statement}
 use Rattle.session64.proofs.seal.taken_at.Tie as tie
@@ -13,8 +16,10 @@ returns c =
     let told = c .before .before in
     let ready = told .before .before in
     let rank = ready .before in
-    let x = rank .before .before .before .args in (
-      taken-at-of word64 (x .p) (x .part) Note (x .bytes .now) (x .s) (told .enum-told .given .1) (rank .rank .ensures) (ready .readied .ensures) sealing (c .feed .ensures),
+    let start = rank .before .before .before in
+    let x = start .args in
+    let asked : roundsOf word64 (x .p .terms .rounds) ≡ x .p .terms .rounds = rounds-asked word64 (x .p .terms .rounds) (start .pre .termed) in (
+      taken-at-of word64 (x .p) (x .part) Note (x .bytes .now) (x .s) (told .enum-told .given .1) (rank .rank .ensures) (ready .readied .ensures) sealing (rw asked at (c .feed .ensures)),
       rw (told .enum-told .given .1),
     )
 
@@ -25,11 +30,12 @@ returns-2 c =
     let ready = told .before .before in
     let rank = ready .before in
     let start = rank .before .before .before in
-    let x = start .args in (
+    let x = start .args in
+    let asked : roundsOf word64 (x .p .terms .rounds) ≡ x .p .terms .rounds = rounds-asked word64 (x .p .terms .rounds) (start .pre .termed) in (
       sealed-taken-at word64 (x .p) (x .part) (x .bytes .now) (x .out .now) (x .s) (told .enum-told2 .given .1) (rank .rank .ensures) (ready .readied .ensures) (start .pre .fits)
-          (seal .seal .ensures .0),
+          (rw asked at (seal .seal .ensures .0)),
       sealed-wrote word64 (x .p) (x .part) (x .bytes .now) (x .out .now) (x .s) (told .enum-told2 .given .1) (rank .rank .ensures) (ready .readied .ensures) (start .pre .fits)
-          (seal .seal .ensures .1),
+          (rw asked at (seal .seal .ensures .1)),
     )
 
 returns-3 : tie.Need-returns-3
@@ -37,8 +43,10 @@ returns-3 c =
     let told = c .before in
     let ready = told .before .before in
     let rank = ready .before in
-    let x = rank .before .before .before .args in (
-      taken-at-of word64 (x .p) (x .part) Trailer (x .bytes .now) (x .s) (told .enum-told3 .given .1) (rank .rank .ensures) (ready .readied .ensures) sealing (c .feed2 .ensures),
+    let start = rank .before .before .before in
+    let x = start .args in
+    let asked : roundsOf word64 (x .p .terms .rounds) ≡ x .p .terms .rounds = rounds-asked word64 (x .p .terms .rounds) (start .pre .termed) in (
+      taken-at-of word64 (x .p) (x .part) Trailer (x .bytes .now) (x .s) (told .enum-told3 .given .1) (rank .rank .ensures) (ready .readied .ensures) sealing (rw asked at (c .feed2 .ensures)),
       rw (told .enum-told3 .given .1),
     )
 

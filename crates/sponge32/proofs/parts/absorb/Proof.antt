@@ -8,6 +8,7 @@ use lib.ListN.{length}
 use Rattle.norx.specs.Norx.{word32, rate}
 use Rattle.norx.proofs.Slices.{tail}
 use Rattle.norx.proofs.Blocks.{part-none, part-some}
+use Rattle.rules.specs.Rules.{roundsOf}
 use Rattle.sponge32.proofs.parts.absorb.Statement.{statement}
 use Rattle.sponge32.proofs.parts.absorb.Tie as tie
 
@@ -18,14 +19,14 @@ only-empty c = omega arith
 returns : tie.Need-returns
 returns c =
     let x = c .before .before .args in
-    part-none word32 (x .rounds) (x .m) (x .from) (x .d .now) (only-empty c)
+    part-none word32 (roundsOf word32 (x .rounds)) (x .m) (x .from) (x .d .now) (only-empty c)
 
 returns-2 : tie.Need-returns-2
 returns-2 c =
     let full = c .before .before in
     let x = full .before .before .before .args in
     let d = x .d .now in
-    part-some word32 (x .rounds) (x .m) (x .from) d (full .before .if1 .left) (full .absorb-full .ensures) (tail (length d / rate word32 * rate word32) d) refl refl (c .absorb-last .ensures)
+    part-some word32 (roundsOf word32 (x .rounds)) (x .m) (x .from) d (full .before .if1 .left) (full .absorb-full .ensures) (tail (length d / rate word32 * rate word32) d) refl refl (c .absorb-last .ensures)
 
 pub absorb-spec : {M : Type 1} → statement M
 absorb-spec =

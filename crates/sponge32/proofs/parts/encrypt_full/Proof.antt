@@ -8,6 +8,7 @@ use Rattle.norx.specs.Norx.{word32, rate, bodyMark, cipherBlocks}
 use Rattle.norx.proofs.Slices.{blocks-le}
 use Rattle.norx.proofs.Blocks.{rate-pos}
 use Rattle.norx.proofs.Turns.{written, turns-plain, shown-plain}
+use Rattle.rules.specs.Rules.{roundsOf}
 use Rattle.sponge32.proofs.parts.encrypt_full.Statement.{statement}
 use Rattle.sponge32.proofs.parts.encrypt_full.Tie as tie
 
@@ -20,9 +21,9 @@ returns c =
     let o = x .out .now in
     let n = length d / rate word32 in
     let le = blocks-le (length d) (rate word32) (rate-pos word32) in (
-      call .turns .ensures .0 ∙ turns-plain word32 (x .rounds) bodyMark (x .s) d n le,
-      written (length o) (length d) _ (cipherBlocks word32 (x .rounds) (x .s) d n) (drop (n * rate word32) o) o (start .pre) (call .turns .ensures .1)
-          (shown-plain word32 (x .rounds) (x .s) d n le),
+      call .turns .ensures .0 ∙ turns-plain word32 (roundsOf word32 (x .rounds)) bodyMark (x .s) d n le,
+      written (length o) (length d) _ (cipherBlocks word32 (roundsOf word32 (x .rounds)) (x .s) d n) (drop (n * rate word32) o) o (start .pre) (call .turns .ensures .1)
+          (shown-plain word32 (roundsOf word32 (x .rounds)) (x .s) d n le),
     )
 
 pub encrypt-full-spec : {M : Type 1} → statement M

@@ -10,6 +10,7 @@ use lib.Seq.{length-take-le}
 use Rattle.norx.specs.Norx.{word32}
 use Rattle.norx.proofs.Slices.{tail}
 use Rattle.norx.proofs.Fed.{piece-of}
+use Rattle.rules.specs.Rules.{roundsOf}
 use Rattle.sponge32.proofs.pieces.feed.Statement.{statement}
 use Rattle.sponge32.proofs.pieces.feed.Tie as tie
 
@@ -28,7 +29,7 @@ returns c =
     let x = filling .before .before .args in
     let d = x .d .now in
     let k = filling .filling .result in
-    piece-of word32 (x .rounds) (x .m) (x .s) (x .n) k d (filling .filling .ensures .0) (filling .filling .ensures .3) (ap (λ (i : ℕ). take i d) (sub-zero k)) (tail k d)
+    piece-of word32 (roundsOf word32 (x .rounds)) (x .m) (x .s) (x .n) k d (filling .filling .ensures .0) (filling .filling .ensures .3) (ap (λ (i : ℕ). take i d) (sub-zero k)) (tail k d)
     (first .feed-filling .ensures) (c .feed-aligned .ensures)
 
 pub feed-spec : {M : Type 1} → statement M

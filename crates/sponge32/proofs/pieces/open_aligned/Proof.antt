@@ -9,6 +9,7 @@ use Rattle.norx.specs.Norx.{word32, rate}
 use Rattle.norx.proofs.Slices.{tail}
 use Rattle.norx.proofs.Turns.{turns-opened}
 use Rattle.norx.proofs.Unfed.{unfed-aligned}
+use Rattle.rules.specs.Rules.{roundsOf}
 use Rattle.sponge32.proofs.pieces.open_aligned.Statement.{statement}
 use Rattle.sponge32.proofs.pieces.open_aligned.Tie as tie
 
@@ -18,8 +19,8 @@ returns c =
     let known = full .before in
     let x = known .before .args in
     let t = x .c .now in
-    unfed-aligned word32 (x .rounds) (x .s) t (λ i. known .shared-slice-known .given i .fits)
-    (full .unwritten .ensures ∙ turns-opened word32 (x .rounds) (x .s) t (length t / rate word32) (omega arith)) (tail (length t / rate word32 * rate word32) t) (c .open-left .ensures)
+    unfed-aligned word32 (roundsOf word32 (x .rounds)) (x .s) t (λ i. known .shared-slice-known .given i .fits)
+    (full .unwritten .ensures ∙ turns-opened word32 (roundsOf word32 (x .rounds)) (x .s) t (length t / rate word32) (omega arith)) (tail (length t / rate word32 * rate word32) t) (c .open-left .ensures)
 
 pub open-aligned-spec : {M : Type 1} → statement M
 open-aligned-spec =

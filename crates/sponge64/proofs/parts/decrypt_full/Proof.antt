@@ -8,6 +8,7 @@ use Rattle.norx.specs.Norx.{word64, rate, messageBlocks}
 use Rattle.norx.proofs.Slices.{blocks-le}
 use Rattle.norx.proofs.Blocks.{rate-pos}
 use Rattle.norx.proofs.Turns.{written, turns-opened, shown-opened}
+use Rattle.rules.specs.Rules.{roundsOf}
 use Rattle.sponge64.proofs.parts.decrypt_full.Statement.{statement}
 use Rattle.sponge64.proofs.parts.decrypt_full.Tie as tie
 
@@ -21,9 +22,9 @@ returns c =
     let o = x .out .now in
     let n = length d / rate word64 in
     let le = blocks-le (length d) (rate word64) (rate-pos word64) in (
-      call .turns .ensures .0 ∙ turns-opened word64 (x .rounds) (x .s) d n le,
-      written (length o) (length d) _ (messageBlocks word64 (x .rounds) (x .s) d n) (drop (n * rate word64) o) o (start .pre) (call .turns .ensures .1)
-          (shown-opened word64 (x .rounds) (x .s) d (λ i. known .shared-slice-known .given i .fits) n le),
+      call .turns .ensures .0 ∙ turns-opened word64 (roundsOf word64 (x .rounds)) (x .s) d n le,
+      written (length o) (length d) _ (messageBlocks word64 (roundsOf word64 (x .rounds)) (x .s) d n) (drop (n * rate word64) o) o (start .pre) (call .turns .ensures .1)
+          (shown-opened word64 (roundsOf word64 (x .rounds)) (x .s) d (λ i. known .shared-slice-known .given i .fits) n le),
     )
 
 pub decrypt-full-spec : {M : Type 1} → statement M

@@ -7,13 +7,14 @@ use native.Mathlib.Nat.{sub-zero}
 use lib.ListN.{length, take}
 use Rattle.norx.specs.Norx.{word64, rate}
 use Rattle.norx.proofs.Unfed.{unfed-none, unfed-fresh}
+use Rattle.rules.specs.Rules.{roundsOf}
 use Rattle.sponge64.proofs.pieces.open_left.Statement.{statement}
 use Rattle.sponge64.proofs.pieces.open_left.Tie as tie
 
 returns : tie.Need-returns
 returns c =
     let x = c .before .before .args in
-    unfed-none word64 (x .rounds) (x .s) 0 (x .left .now) (c .if1 .taken)
+    unfed-none word64 (roundsOf word64 (x .rounds)) (x .s) 0 (x .left .now) (c .if1 .taken)
 
 returns-2 : tie.Need-returns-2
 returns-2 c =
@@ -25,7 +26,7 @@ returns-2 c =
     let start = known .before in
     let x = start .args in
     let t = x .left .now in
-    unfed-fresh word64 (x .rounds) (x .s) t (test .if1 .left) (start .pre) (λ i. known .shared-slice-known .given i .fits)
+    unfed-fresh word64 (roundsOf word64 (x .rounds)) (x .s) t (test .if1 .left) (start .pre) (λ i. known .shared-slice-known .given i .fits)
     (first .before .enter .ensures) (first .filled .ensures) (rate .before .xor-block .ensures) (rate .rate-bytes .ensures)
     (ap (λ (i : ℕ). take i (rate .rate-bytes .result)) (sub-zero (length t))) (second .filled2 .ensures) (c .xor-block2 .ensures)
 

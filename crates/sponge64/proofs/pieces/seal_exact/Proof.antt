@@ -11,6 +11,7 @@ use Rattle.norx.specs.Norx.{word64, bodyMark}
 use Rattle.norx.proofs.Slices.{tail}
 use Rattle.norx.proofs.Fed.{piece-of}
 use Rattle.norx.proofs.FedText.{written-piece}
+use Rattle.rules.specs.Rules.{roundsOf}
 use Rattle.sponge64.proofs.pieces.seal_exact.Statement.{statement}
 use Rattle.sponge64.proofs.pieces.seal_exact.Tie as tie
 
@@ -35,8 +36,8 @@ returns c =
     let k = filling .filling .result in
     let e = filling .filling .ensures in
     let a = ap (λ (i : ℕ). take i d) (sub-zero k) in (
-      piece-of word64 (x .rounds) bodyMark (x .s) (x .n) k d (e .0) (e .3) a (tail k d) (first .seal-filling .ensures .0) (last .seal-aligned .ensures .0),
-      written-piece word64 (x .rounds) (x .s) (x .n) k d (x .out .now) (e .0) (start .pre) (e .3) a (tail k d) (first .seal-filling .ensures .0) (first .seal-filling .ensures .1)
+      piece-of word64 (roundsOf word64 (x .rounds)) bodyMark (x .s) (x .n) k d (e .0) (e .3) a (tail k d) (first .seal-filling .ensures .0) (last .seal-aligned .ensures .0),
+      written-piece word64 (roundsOf word64 (x .rounds)) (x .s) (x .n) k d (x .out .now) (e .0) (start .pre) (e .3) a (tail k d) (first .seal-filling .ensures .0) (first .seal-filling .ensures .1)
           (last .seal-aligned .ensures .1),
     )
 

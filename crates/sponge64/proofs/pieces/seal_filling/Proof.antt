@@ -3,6 +3,7 @@
 use borrow.Author.Needs.{needs}
 use Rattle.norx.specs.Norx.{word64}
 use Rattle.norx.proofs.FedText.{written-filling}
+use Rattle.rules.specs.Rules.{roundsOf}
 use Rattle.sponge64.proofs.pieces.seal_filling.Statement.{statement}
 use Rattle.sponge64.proofs.pieces.seal_filling.Tie as tie
 
@@ -14,7 +15,7 @@ returns c =
     let start = known .before in
     let x = start .args in (
       fed-at .feed-filling .ensures,
-      written-filling word64 (x .rounds) (x .s) (x .j) (x .d .now) (x .out .now) (start .pre .0) (start .pre .1) (start .pre .3) (λ i. known .shared-slice-known .given i .fits)
+      written-filling word64 (roundsOf word64 (x .rounds)) (x .s) (x .j) (x .d .now) (x .out .now) (start .pre .0) (start .pre .1) (start .pre .3) (λ i. known .shared-slice-known .given i .fits)
           (fed-at .feed-filling .ensures) (show-at .show-rate .ensures),
     )
 

@@ -1,7 +1,7 @@
 -- `session32::seal::Sealing::start`: the fresh session, or the closed one.
 -- Assumes nothing.
 use Rattle.session32.specs.Kinds.{sealing32}
-use Rattle.session.proofs.Steps.{start-lengths, start-done, start-not}
+use Rattle.session.proofs.Steps.{start-fits, start-done, start-not}
 use borrow.Author.Needs.{needs}
 use Rattle.session32.proofs.seal.Sealing.start.Statement.{statement}
 use Rattle.session32.proofs.seal.Sealing.start.Tie as tie
@@ -10,7 +10,7 @@ fresh-requires : tie.Need-fresh-requires
 fresh-requires c κs =
     let answer = c .before .before in
     let x = answer .before .before .before .args in
-    start-lengths sealing32 (x .key .now) (x .nonce .now) (x .terms) _ _ (answer .start-answer .ensures) (c .before .done .ensures) (c .if1 .taken)
+    start-fits sealing32 (x .key .now) (x .nonce .now) (x .terms) _ _ (answer .start-answer .ensures) (c .before .done .ensures) (c .if1 .taken)
 
 returns : tie.Need-returns
 returns c =

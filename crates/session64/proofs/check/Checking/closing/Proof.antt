@@ -25,7 +25,8 @@ own-tag-requires c κs =
       answer-is = answer .close-answer .ensures;
       done-is = done .done .ensures;
     } in
-    close-fits checking64 (x .self) (x .edition) (x .tag .now) found (if1 .if1 .taken) .0
+    let fits = close-fits checking64 (x .self) (x .edition) (x .tag .now) found (if1 .if1 .taken) in
+    (fits .0, fits .1)
 
 returns : tie.Need-returns
 returns c =

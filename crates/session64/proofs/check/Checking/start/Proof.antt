@@ -1,7 +1,7 @@
 -- `session64::check::Checking::start`: the fresh session, or the closed one.
 -- Assumes nothing.
 use Rattle.session64.specs.Kinds.{checking64}
-use Rattle.session.proofs.Steps.{start-lengths, start-done, start-not}
+use Rattle.session.proofs.Steps.{start-fits, start-done, start-not}
 use borrow.Author.Needs.{needs}
 use Rattle.session64.proofs.check.Checking.start.Statement.{statement}
 use Rattle.session64.proofs.check.Checking.start.Tie as tie
@@ -10,7 +10,7 @@ fresh-requires : tie.Need-fresh-requires
 fresh-requires c κs =
     let answer = c .before .before in
     let x = answer .before .before .before .args in
-    start-lengths checking64 (x .key .now) (x .nonce .now) (x .terms) _ _ (answer .start-answer .ensures) (c .before .done .ensures) (c .if1 .taken)
+    start-fits checking64 (x .key .now) (x .nonce .now) (x .terms) _ _ (answer .start-answer .ensures) (c .before .done .ensures) (c .if1 .taken)
 
 returns : tie.Need-returns
 returns c =

@@ -25,7 +25,8 @@ own-tag-requires c κs =
       answer-is = answer .close-answer .ensures;
       done-is = done .done .ensures;
     } in
-    close-fits sealing64 (x .self) (x .edition) (x .tag .now) found (if1 .if1 .taken) .0
+    let fits = close-fits sealing64 (x .self) (x .edition) (x .tag .now) found (if1 .if1 .taken) in
+    (fits .0, fits .1)
 
 copy-requires : tie.Need-copy-requires
 copy-requires c κs =
@@ -42,7 +43,7 @@ copy-requires c κs =
       answer-is = answer .close-answer .ensures;
       done-is = done .done .ensures;
     } in
-    let long = close-fits sealing64 (x .self) (x .edition) (x .tag .now) found (if1 .if1 .taken) .1 in
+    let long = close-fits sealing64 (x .self) (x .edition) (x .tag .now) found (if1 .if1 .taken) .2 in
     let same = own-long word64 _ _ _ (x .tag .now) (c .before .before .own-tag .ensures) long in
     omega (arith, same)
 
@@ -64,7 +65,7 @@ returns c =
       answer-is = answer .close-answer .ensures;
       done-is = done .done .ensures;
     } in
-    let long = close-fits sealing64 (x .self) (x .edition) (x .tag .now) found (if1 .if1 .taken) .1 in
+    let long = close-fits sealing64 (x .self) (x .edition) (x .tag .now) found (if1 .if1 .taken) .2 in
     let made : TagMade sealing64 (x .self) (place .place .result) = record {
       rows = _;
       tag = _;

@@ -1,10 +1,10 @@
--- `blocks32::turns::marked`: the code says what the definition says.
+-- `blocks64::mark::marked`: the code says what the definition says.
 -- Assumes nothing.
 use borrow.Author.Needs.{needs}
 use mathlib.Core.Path.{refl}
 use Rattle.norx.specs.Norx.{marked}
-use Rattle.blocks32.proofs.turns.marked.Statement.{statement}
-use Rattle.blocks32.proofs.turns.marked.Tie as tie
+use Rattle.blocks64.proofs.mark.marked.Statement.{statement}
+use Rattle.blocks64.proofs.mark.marked.Tie as tie
 
 returns : tie.Need-returns
 unfolding marked

@@ -1,11 +1,11 @@
--- `permutation64::row_step`: the four columns' steps laid out in rows.
+-- `permutation64::row::row_step`: the four columns' steps laid out in rows.
 -- Assumes nothing.
 use mathlib.Core.List.{[], _∷_}
 use borrow.Author.Needs.{needs}
 use Rattle.norx.specs.Norx.{row, wordAt, xorRow}
 use Rattle.norx.specs.Rows.{hRow, rorRow}
-use Rattle.permutation64.proofs.row_step.Statement.{statement}
-use Rattle.permutation64.proofs.row_step.Tie as tie
+use Rattle.permutation64.proofs.row.row_step.Statement.{statement}
+use Rattle.permutation64.proofs.row.row_step.Tie as tie
 
 returns : tie.Need-returns
 unfolding hRow rorRow xorRow

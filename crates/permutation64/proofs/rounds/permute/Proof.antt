@@ -1,4 +1,4 @@
--- `permutation64::permute` is P: before the turn i the state has gone through i rounds.
+-- `permutation64::rounds::permute` is P: before the turn i the state has gone through i rounds.
 -- Assumes nothing.
 use mathlib.Core.Path.{_≡_, refl}
 use Prim.Native.Nat.{_≤_, _-_}
@@ -6,8 +6,8 @@ use native.Mathlib.Omega.{arith}
 use borrow.Author.Needs.{needs}
 use Rattle.norx.specs.Norx.{word64, P}
 use Rattle.norx.proofs.Steps.{by-round}
-use Rattle.permutation64.proofs.permute.Statement.{statement}
-use Rattle.permutation64.proofs.permute.Tie as tie
+use Rattle.permutation64.proofs.rounds.permute.Statement.{statement}
+use Rattle.permutation64.proofs.rounds.permute.Tie as tie
 
 abbrev Inv-loop : tie.InvT-loop
 Inv-loop rounds t₀ i₀ t i = (t ≡ P word64 i t₀) × (i ≤ rounds)
