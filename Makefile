@@ -1,6 +1,6 @@
 # make: proves every crate, runs every program, shows three days replayed, and builds the C library.
 # make test: the merge gate, and then the tests outside the proof.
-# make bench: the library and its lists beside a C implementation, segments and a session beside one call, and what jobs cost in runs of P and in time (tests/bench_runs.sh, for docs/PLANNING.md).
+# make bench: the library beside a C implementation by gcc and by clang, its lists beside C too, segments and a session beside one call, what jobs cost in runs of P and in time (tests/bench_runs.sh, for docs/PLANNING.md), and how the round of P is compiled (tests/round.sh).
 # make install PREFIX=..: the library, its header and a pkg-config file, for a C build to find.
 # Each crate, edit and test has one line; with V=1 all that the checker says is shown, and target/log keeps it.
 .PHONY: all library install test outside bench clean

@@ -1,4 +1,4 @@
-/* Speed of the library beside the reference, by turns in one run. */
+/* Speed of the library beside the reference by several compilers, by turns in one run. */
 
 #define _POSIX_C_SOURCE 200809L
 
@@ -7,10 +7,13 @@
 #include <string.h>
 
 #include "bench.h"
+#include "bench_compilations.h"
 #include "jeczmilot.h"
-#include "norx.h"
 
-enum { SIDES = 2, KINDS = 8, SIZES = 4, KIB_64 = 2, MIB_1 = 3, LARGEST = 1 << 20, LONGEST_TAG = 32, TURNS = 6 };
+/* Side 0 is the library, and behind it come the compilations in their order. */
+enum { LIBRARY, FIRST_C, SIDES = FIRST_C + COMPILATIONS };
+
+enum { KINDS = 8, SIZES = 4, KIB_64 = 2, MIB_1 = 3, LARGEST = 1 << 20, HEADER_BYTES = 16, LONGEST_TAG = 32, TURNS = 6 };
 
 static const size_t sizes[SIZES] = {64, 1 << 10, 64 << 10, LARGEST};
 
@@ -20,6 +23,9 @@ static const double run_seconds = 60;
 
 /* Cost per byte may differ by so much between 64 KiB and 1 MiB and still be called linear. */
 static const double linear_within = 1.25;
+
+/* What the ratio library / C should be in every cell. */
+static const double least_ratio = 1.00;
 
 /* One line of the table; the seconds are the best that one call took. */
 struct line {
@@ -32,31 +38,34 @@ struct line {
 
 static struct line lines[KINDS][SIZES];
 
-static uint8_t key[LONGEST_TAG], nonce[LONGEST_TAG];
+static uint8_t key[LONGEST_TAG], nonce[LONGEST_TAG], header[HEADER_BYTES];
 static uint8_t body[LARGEST], sealed[LARGEST + LONGEST_TAG], out[LARGEST + LONGEST_TAG];
 
-/* Side 0 is the library, side 1 the reference. */
+static const struct compilation *compilation_of(int side)
+{
+    return &compilations[side - FIRST_C];
+}
 
 static uint32_t answer_of_seal(int side, const struct line *line)
 {
     size_t tag = line->width / 2;
 
-    if (side == 0)
-        return norx_seal(line->width, line->rounds, key, tag, nonce, tag, NULL, 0, body, line->size, NULL, 0, out,
-                         line->size + tag).answer;
-    return reference_seal_answer(line->width, line->rounds, key, tag, nonce, tag, NULL, 0, body, line->size, NULL, 0,
-                                 out, line->size + tag);
+    if (side == LIBRARY)
+        return norx_seal(line->width, line->rounds, key, tag, nonce, tag, header, HEADER_BYTES, body, line->size, NULL,
+                         0, out, line->size + tag).answer;
+    return compilation_of(side)->seal(line->width, line->rounds, key, tag, nonce, tag, header, HEADER_BYTES, body,
+                                      line->size, NULL, 0, out, line->size + tag);
 }
 
 static uint32_t answer_of_open(int side, const struct line *line)
 {
     size_t tag = line->width / 2;
 
-    if (side == 0)
-        return norx_open(line->width, line->rounds, key, tag, nonce, tag, NULL, 0, sealed, line->size + tag, NULL, 0,
-                         out, line->size).answer;
-    return reference_open_answer(line->width, line->rounds, key, tag, nonce, tag, NULL, 0, sealed, line->size + tag,
-                                 NULL, 0, out, line->size);
+    if (side == LIBRARY)
+        return norx_open(line->width, line->rounds, key, tag, nonce, tag, header, HEADER_BYTES, sealed,
+                         line->size + tag, NULL, 0, out, line->size).answer;
+    return compilation_of(side)->open(line->width, line->rounds, key, tag, nonce, tag, header, HEADER_BYTES, sealed,
+                                      line->size + tag, NULL, 0, out, line->size);
 }
 
 static void seal_by(int side, const struct line *line)
@@ -82,24 +91,42 @@ static double seconds_per_call(int side, const struct line *line)
     return (now() - begin) / (double)line->calls_per_batch;
 }
 
-/* Prepares the sealed text for opening, and sees to it that both sides do the same work. */
+/* Has the library's sealed text where all sides open it. */
 static void prepare(const struct line *line)
+{
+    seal_by(LIBRARY, line);
+    memcpy(sealed, out, line->size + line->width / 2);
+}
+
+/* Every side does the same work. */
+static void check_sides(const struct line *line)
 {
     size_t sealed_len = line->size + line->width / 2;
 
-    seal_by(0, line);
-    memcpy(sealed, out, sealed_len);
-    memset(out, 0, sealed_len);
-    seal_by(1, line);
-    demand(memcmp(sealed, out, sealed_len) == 0, "the two sides seal differently");
+    for (int side = 0; side < SIDES; side++) {
+        memset(out, 0, sealed_len);
+        seal_by(side, line);
+        demand(memcmp(sealed, out, sealed_len) == 0, "the sides seal differently");
+        memset(out, 0, sealed_len);
+        open_by(side, line);
+        demand(memcmp(body, out, line->size) == 0, "the sides open differently");
+    }
 }
 
-/* The two sides take turns, and also take turns at being first. */
+/* Each time another side is first, and every second time they go the other way round, so that none is always behind
+   the same one. */
+static int side_at(int turn)
+{
+    int first = turn / SIDES, step = turn % SIDES;
+
+    return (first + (first % 2 == 0 ? step : SIDES - step)) % SIDES;
+}
+
 static void measure(struct line *line)
 {
     prepare(line);
     for (int turn = 0; turn < SIDES * TURNS; turn++) {
-        int side = (turn + turn / 2) % SIDES;
+        int side = side_at(turn);
         double seconds = seconds_per_call(side, line);
 
         if (seconds < line->seconds[side])
@@ -110,9 +137,8 @@ static void measure(struct line *line)
 /* Doubles the number of calls until they take the time of a batch. */
 static void find_calls_per_batch(struct line *line)
 {
-    prepare(line);
     line->calls_per_batch = 1;
-    while (seconds_per_call(1, line) * (double)line->calls_per_batch < batch_seconds)
+    while (seconds_per_call(FIRST_C, line) * (double)line->calls_per_batch < batch_seconds)
         line->calls_per_batch *= 2;
 }
 
@@ -121,8 +147,11 @@ static void lay_out(struct line *line, int kind, size_t size)
     *line = (struct line){.width = kind < KINDS / 2 ? 32 : 64,
                           .rounds = kind / 2 % 2 == 0 ? 4 : 6,
                           .opening = kind % 2,
-                          .size = size,
-                          .seconds = {1e9, 1e9}};
+                          .size = size};
+    for (int side = 0; side < SIDES; side++)
+        line->seconds[side] = 1e9;
+    prepare(line);
+    check_sides(line);
     find_calls_per_batch(line);
 }
 
@@ -145,23 +174,75 @@ static void measure_all(void)
     } while (now() - begin < run_seconds);
 }
 
+static void print_heading(void)
+{
+    printf("library / C, how many times as fast the library is as the reference: a header of %d bytes, no trailer\n",
+           HEADER_BYTES);
+    printf("gcc, clang: the reference by that compiler, -O3 for plain x86-64; the goal is %.2f in every cell\n",
+           least_ratio);
+#ifdef NATIVE
+    printf("native: with -march=native too, for this machine alone; it has no goal\n");
+#endif
+    printf("width rounds  work    bytes  library MB/s");
+    for (int side = FIRST_C; side < SIDES; side++)
+        printf("%14s", compilation_of(side)->name);
+    printf("\n");
+}
+
+static double ratio_of(const struct line *line, int side)
+{
+    return line->seconds[side] / line->seconds[LIBRARY];
+}
+
+static const char *work_of(const struct line *line)
+{
+    return line->opening ? "open" : "seal";
+}
+
 static void print_line(const struct line *line)
 {
-    double megabytes = (double)line->size / 1e6;
-
-    printf("%5" PRIu32 " %6" PRIu32 "  %s %8zu %13.1f %15.1f %6.2f\n", line->width, line->rounds,
-           line->opening ? "open" : "seal", line->size, megabytes / line->seconds[0], megabytes / line->seconds[1],
-           line->seconds[1] / line->seconds[0]);
+    printf("%5" PRIu32 " %6" PRIu32 "  %s %8zu %13.1f", line->width, line->rounds, work_of(line), line->size,
+           (double)line->size / 1e6 / line->seconds[LIBRARY]);
+    for (int side = FIRST_C; side < SIDES; side++)
+        printf("%14.2f", ratio_of(line, side));
+    printf("\n");
 }
 
 static void print_linearity(const struct line *shorter, const struct line *longer)
 {
-    double shorter_cost = 1e9 * shorter->seconds[0] / (double)shorter->size;
-    double longer_cost = 1e9 * longer->seconds[0] / (double)longer->size;
+    double shorter_cost = 1e9 * shorter->seconds[LIBRARY] / (double)shorter->size;
+    double longer_cost = 1e9 * longer->seconds[LIBRARY] / (double)longer->size;
     int linear = longer_cost < linear_within * shorter_cost && shorter_cost < linear_within * longer_cost;
 
     printf("      library: %.3f ns per byte at 64 KiB, %.3f at 1 MiB: %s\n", shorter_cost, longer_cost,
            linear ? "linear" : "NOT linear");
+}
+
+static void print_lowest(int side)
+{
+    const struct line *lowest = &lines[0][0];
+
+    for (int kind = 0; kind < KINDS; kind++)
+        for (int size = 0; size < SIZES; size++)
+            if (ratio_of(&lines[kind][size], side) < ratio_of(lowest, side))
+                lowest = &lines[kind][size];
+    printf("lowest beside %s: %.3f (%" PRIu32 " bits, %" PRIu32 " rounds, %s, %zu bytes), goal %.2f: %s\n",
+           compilation_of(side)->name, ratio_of(lowest, side), lowest->width, lowest->rounds, work_of(lowest),
+           lowest->size, least_ratio, ratio_of(lowest, side) >= least_ratio ? "reached" : "not reached");
+}
+
+/* The ratio depends on the processor, so the goal is shown and not judged. */
+static void print_table(void)
+{
+    print_heading();
+    for (int kind = 0; kind < KINDS; kind++) {
+        for (int size = 0; size < SIZES; size++)
+            print_line(&lines[kind][size]);
+        print_linearity(&lines[kind][KIB_64], &lines[kind][MIB_1]);
+    }
+    for (int side = FIRST_C; side < SIDES; side++)
+        if (compilation_of(side)->has_goal)
+            print_lowest(side);
 }
 
 /* Touches every page, so that no timed call is the first to use one. */
@@ -173,6 +254,7 @@ static void touch_buffers(void)
     memset(out, 1, sizeof out);
     memset(key, 2, sizeof key);
     memset(nonce, 3, sizeof nonce);
+    memset(header, 4, sizeof header);
 }
 
 int main(void)
@@ -182,11 +264,6 @@ int main(void)
     fflush(stdout);
     lay_out_lines();
     measure_all();
-    printf("width rounds  work    bytes  library MB/s  reference MB/s  ratio\n");
-    for (int kind = 0; kind < KINDS; kind++) {
-        for (int size = 0; size < SIZES; size++)
-            print_line(&lines[kind][size]);
-        print_linearity(&lines[kind][KIB_64], &lines[kind][MIB_1]);
-    }
+    print_table();
     return 0;
 }

@@ -1,7 +1,7 @@
 #!/bin/sh
 # Has the proved program pace measure a session beside one call, and judges each line:
 #   tests/pace.sh
-# Ends with status 1 where a body in pieces costs more than 1.15 times one call.
+# Ends with status 1 where a body in pieces costs more than 1.05 times one call.
 
 set -eu
 cd "$(dirname "$0")/.."
@@ -9,7 +9,7 @@ cd "$(dirname "$0")/.."
 
 # Prints width, rounds, work, both times and their ratio; fails where the bound is not kept.
 judge() {
-    awk -v bound=1.15 -v width="$1" -v rounds="$2" -v work="$3" -v one_call="$4" -v pieces="$5" 'BEGIN {
+    awk -v bound=1.05 -v width="$1" -v rounds="$2" -v work="$3" -v one_call="$4" -v pieces="$5" 'BEGIN {
         ratio = one_call > 0 ? pieces / one_call : 0
         kept = ratio > 0 && ratio <= bound
         printf "%5d %6d  %-5s %9d %8d %6.3f  %.2f %s\n", width, rounds, work, one_call, pieces, ratio, bound, kept ? "kept" : "NOT kept"

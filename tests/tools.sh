@@ -1,5 +1,6 @@
 #!/bin/sh
-# Sourced or run: installs the C compiler and pkg-config where they are missing, and sets CC, CFLAGS, LDFLAGS, NM and RUN.
+# Sourced or run: installs the C compiler and pkg-config where they are missing, and sets CC, CFLAGS, LDFLAGS, NM,
+# OBJDUMP and RUN; and GCC and CLANG for the benchmark, which calls need_gcc_and_clang before it uses them.
 # The archive is for x86-64, so an Arm host compiles what links it for x86-64 and runs these programs under qemu; cc is the host's own.
 
 set -eu
@@ -43,19 +44,31 @@ has_c() {
     is_there cc && echo '#include <stdio.h>' | cc -E - >/dev/null 2>&1
 }
 
+# Nothing but the benchmark needs clang, nor gcc where cc is another compiler.
+need_gcc_and_clang() {
+    is_there "$GCC" || install_packages gcc libc6-dev
+    is_there clang || install_packages clang
+}
+
 CFLAGS="-std=c11 -O3 -Wall -Wextra"
 
 case $(uname -m) in
 x86_64)
     CC=cc
+    GCC='gcc'
+    CLANG='clang'
     NM='nm'
+    OBJDUMP='objdump'
     LDFLAGS=
     RUN=
     ;;
 aarch64)
     has_cross_tools || install_packages gcc-x86-64-linux-gnu libc6-dev-amd64-cross qemu-user
     CC=x86_64-linux-gnu-gcc
+    GCC=$CC
+    CLANG='clang --target=x86_64-linux-gnu -isystem /usr/x86_64-linux-gnu/include'
     NM=x86_64-linux-gnu-nm
+    OBJDUMP=x86_64-linux-gnu-objdump
     LDFLAGS=-static
     RUN=qemu-x86_64
     ;;
