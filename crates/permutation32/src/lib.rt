@@ -1,34 +1,19 @@
 // The core permutation at 32-bit words: what a round is. How a step goes over a row, and P over its rounds, is laid out for each width by itself.
 ghost use mathlib.Core.Path.{_≡_};
 ghost use mathlib.Core.List.{_∷_, []};
-ghost use lib.Bits.{bitXor};
-ghost use Prim.Native.Nat.{_<_, _%_};
-ghost use Rattle.norx.specs.Norx.{word32, bits, row, wordAt, ror, H as hOf, G as gOf, onColumns, onDiagonals, F, constants, rowAt};
+ghost use Prim.Native.Nat.{_<_};
+ghost use Rattle.norx.specs.Norx.{word32, row, wordAt, G as gOf, onColumns, onDiagonals, F, constants, rowAt};
 use row::row_step;
 use rules::w32::*;
 use table::UPPER;
-use words::w32::rotated;
 
 pub mod rounds;
 mod row;
+mod step;
 mod table;
 
-fn h(x: Word, y: Word) -> Word
-    ensures { λ r. ⌜ r ≡ hOf word32 x y ⌝ }
-{
-    x ^ y ^ ((x & y) << 1)
-}
-
-// One step of G: H(x, y), and z xored with it and rotated right.
-pub(crate) fn step(x: Word, y: Word, z: Word, right: u32) -> [Word; 2]
-    ensures { λ r. ⌜ r ≡ hOf word32 x y ∷ ror word32 (right % bits word32) (bitXor (hOf word32 x y) z) ∷ [] ⌝ }
-{
-    let n = h(x, y);
-    [n, rotated(n ^ z, right)]
-}
-
 // G on the four columns at once, by four steps over rows: no word waits for another column's. ad1 is the rows a and d after one step, and so on.
-// The steps stand here and in diagonal_step: a function that is called from two places is not compiled into them.
+// The steps stand here and again in diagonal_step: a function for both may stay one that is called, and the rows then go through memory.
 fn column_step(s: State) -> State
     ensures { λ r. ⌜ r ≡ onColumns (gOf word32) s ⌝ }
 {

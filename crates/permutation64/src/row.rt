@@ -3,7 +3,7 @@ ghost use mathlib.Core.Path.{_≡_};
 ghost use Prim.Native.Nat.{_%_};
 ghost use Rattle.norx.specs.Norx.{word64, bits};
 ghost use Rattle.norx.specs.Rows.{stepped};
-use super::step;
+use super::step::step;
 use rules::w64::*;
 
 // The step in four columns at once, whose words stand in the rows x, y and z; in the order of columns that was measured to be quick.

@@ -1,9 +1,9 @@
--- `permutation64::h` is H: the code says what the definition says.
+-- `permutation32::step::h` is H: the code says what the definition says.
 -- Assumes nothing.
 use mathlib.Core.Path.{refl}
 use Rattle.norx.specs.Norx.{H}
-use Rattle.permutation64.proofs.h.Statement.{statement}
-use Rattle.permutation64.proofs.h.Tie as tie
+use Rattle.permutation32.proofs.step.h.Statement.{statement}
+use Rattle.permutation32.proofs.step.h.Tie as tie
 
 returns : tie.Need-returns
 unfolding H

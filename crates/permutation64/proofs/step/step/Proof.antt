@@ -1,8 +1,8 @@
--- `permutation32::step` is H, and a word xored with it and rotated.
+-- `permutation64::step::step` is H, and a word xored with it and rotated.
 -- Assumes nothing.
 use borrow.Author.Needs.{needs}
-use Rattle.permutation32.proofs.step.Statement.{statement}
-use Rattle.permutation32.proofs.step.Tie as tie
+use Rattle.permutation64.proofs.step.step.Statement.{statement}
+use Rattle.permutation64.proofs.step.step.Tie as tie
 
 returns : tie.Need-returns
 returns c = cc
