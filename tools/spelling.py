@@ -71,7 +71,7 @@ def respelled(line, names, fields, lemmas, paper, is_source, said):
         return new
 
     code = TOKEN.sub(turn, code)
-    code = re.sub(r"(?<![\w'])(\w+) as \1(?![\w'])", r"\1", code)
+    code = re.sub(r"(?<![\w'])(\w+) as \1(?![\w'-])", r"\1", code)
     comment = TOKEN.sub(lambda m: names[m[0]] if m[0] in names and CAMEL.match(m[0]) else m[0], comment)
     return code + comment
 

@@ -5,18 +5,18 @@ use denote.Triple.Clauses.{AtExit}
 use contract.Lifetimes.{Lfts}
 use borrow.Fn.World.{ArgsD, ResD}
 use borrow.Fn.Kinds.{ended_of}
-use Rattle.answers.specs.contracts.number.{signature-number}
+use Rattle.answers.specs.contracts.number.{signature as signature-number}
 use Rattle.answers.proofs.number.Kinds as kinds-number
-use Rattle.answers.proofs.number.Reads.{Post-number}
-use Rattle.answers.specs.contracts.done.{signature-done}
+use Rattle.answers.proofs.number.Reads.{Post as Post-number}
+use Rattle.answers.specs.contracts.done.{signature as signature-done}
 use Rattle.answers.proofs.done.Kinds as kinds-done
-use Rattle.answers.proofs.done.Reads.{Post-done}
-use Rattle.answers.specs.contracts.need.{signature-need}
+use Rattle.answers.proofs.done.Reads.{Post as Post-done}
+use Rattle.answers.specs.contracts.need.{signature as signature-need}
 use Rattle.answers.proofs.need.Kinds as kinds-need
-use Rattle.answers.proofs.need.Reads.{Post-need}
-use Rattle.answers.specs.contracts.reported.{signature-reported}
+use Rattle.answers.proofs.need.Reads.{Post as Post-need}
+use Rattle.answers.specs.contracts.reported.{signature as signature-reported}
 use Rattle.answers.proofs.reported.Kinds as kinds-reported
-use Rattle.answers.proofs.reported.Reads.{Post-reported}
+use Rattle.answers.proofs.reported.Reads.{Post as Post-reported}
 
 pub one_number : (κs : Lfts 0) (a : ArgsD signature-number κs) (r r' : ResD signature-number κs) (s s' : AtExit (ended_of 0 kinds-number.ps kinds-number.r) κs)
     → Post-number κs a r s → Post-number κs a r' s' → r ≡ r'

@@ -1,9 +1,10 @@
 // The answers that every call gives, their numbers, the order of refusals, and the runs of P that are reported with an answer.
+#![tactic(auto)]
 ghost use Rattle.std.specs.Prelude.{◌≡◌};
 ghost use Rattle.answers.specs.Answers.{number_of, done_of, need_of, reported_of};
 
 // Done, or the cause of the refusal.
-#[derive(Drop)]
+#[derive(Clone, Copy)]
 pub enum Answer {
     Done,
     KeyLength,
@@ -60,7 +61,7 @@ pub fn need(ok: bool, refusal: Answer, rest: Answer) -> Answer
 }
 
 // What a call answers, and how many times P ran for it.
-#[derive(Drop)]
+#[derive(Clone, Copy)]
 pub struct Outcome {
     pub answer: Answer,
     pub runs: u32,

@@ -42,7 +42,7 @@ pub(crate) fn lay(message: &mut [u8], at: usize, b: &[u8]) {
 
 fn lay_first(out: &mut [u8], b: &[u8]) {
     if b.len() <= out.len() {
-        bytes::copy(b, out);
+        texts::copy(b, out);
     }
 }
 

@@ -1,4 +1,5 @@
 // Tries to make a job of two revisions pass, and one of two jobs, at both widths, and counts what passes.
+#![tactic(auto)]
 mod accepted;
 mod cut;
 mod editions;

@@ -5,27 +5,27 @@ use denote.Triple.Clauses.{AtExit}
 use contract.Lifetimes.{Lfts}
 use borrow.Fn.World.{ArgsD, ResD}
 use borrow.Fn.Kinds.{ended_of}
-use Rattle.blocks32.specs.contracts.ends.row.{signature-ends-row}
+use Rattle.blocks32.specs.contracts.ends.row.{signature as signature-ends-row}
 use Rattle.blocks32.proofs.ends.row.Kinds as kinds-ends-row
-use Rattle.blocks32.proofs.ends.row.Reads.{Post-ends-row}
-use Rattle.blocks32.specs.contracts.ends.start.{signature-ends-start}
+use Rattle.blocks32.proofs.ends.row.Reads.{Post as Post-ends-row}
+use Rattle.blocks32.specs.contracts.ends.start.{signature as signature-ends-start}
 use Rattle.blocks32.proofs.ends.start.Kinds as kinds-ends-start
-use Rattle.blocks32.proofs.ends.start.Reads.{Post-ends-start}
-use Rattle.blocks32.specs.contracts.ends.tag.{signature-ends-tag}
+use Rattle.blocks32.proofs.ends.start.Reads.{Post as Post-ends-start}
+use Rattle.blocks32.specs.contracts.ends.tag.{signature as signature-ends-tag}
 use Rattle.blocks32.proofs.ends.tag.Kinds as kinds-ends-tag
-use Rattle.blocks32.proofs.ends.tag.Reads.{Post-ends-tag}
-use Rattle.blocks32.specs.contracts.blocks.xored.{signature-blocks-xored}
+use Rattle.blocks32.proofs.ends.tag.Reads.{Post as Post-ends-tag}
+use Rattle.blocks32.specs.contracts.blocks.xored.{signature as signature-blocks-xored}
 use Rattle.blocks32.proofs.blocks.xored.Kinds as kinds-blocks-xored
-use Rattle.blocks32.proofs.blocks.xored.Reads.{Post-blocks-xored}
-use Rattle.blocks32.specs.contracts.blocks.rate_bytes.{signature-blocks-rate-bytes}
+use Rattle.blocks32.proofs.blocks.xored.Reads.{Post as Post-blocks-xored}
+use Rattle.blocks32.specs.contracts.blocks.rate_bytes.{signature as signature-blocks-rate-bytes}
 use Rattle.blocks32.proofs.blocks.rate_bytes.Kinds as kinds-blocks-rate-bytes
-use Rattle.blocks32.proofs.blocks.rate_bytes.Reads.{Post-blocks-rate-bytes}
-use Rattle.blocks32.specs.contracts.turns.turns.{signature-turns-turns}
+use Rattle.blocks32.proofs.blocks.rate_bytes.Reads.{Post as Post-blocks-rate-bytes}
+use Rattle.blocks32.specs.contracts.turns.turns.{signature as signature-turns-turns}
 use Rattle.blocks32.proofs.turns.turns.Kinds as kinds-turns-turns
-use Rattle.blocks32.proofs.turns.turns.Reads.{Post-turns-turns}
-use Rattle.blocks32.specs.contracts.turns.unwritten.{signature-turns-unwritten}
+use Rattle.blocks32.proofs.turns.turns.Reads.{Post as Post-turns-turns}
+use Rattle.blocks32.specs.contracts.turns.unwritten.{signature as signature-turns-unwritten}
 use Rattle.blocks32.proofs.turns.unwritten.Kinds as kinds-turns-unwritten
-use Rattle.blocks32.proofs.turns.unwritten.Reads.{Post-turns-unwritten}
+use Rattle.blocks32.proofs.turns.unwritten.Reads.{Post as Post-turns-unwritten}
 
 pub one_row : (κs : Lfts 1) (a : ArgsD signature-ends-row κs) (r r' : ResD signature-ends-row κs) (s s' : AtExit (ended_of 1 kinds-ends-row.ps kinds-ends-row.r) κs)
     → Post-ends-row κs a r s → Post-ends-row κs a r' s' → r ≡ r'

@@ -1,6 +1,5 @@
 // Blocks of R bytes: xored into s0..s11, and read back from there.
 ghost use Rattle.std.specs.Prelude.{◌≡◌, cond, eqb, length};
-ghost use Rattle.norx.specs.Lent.{was};
 ghost use Rattle.norx.specs.Norx.{word32, rate, xors, xor_block, rate_of};
 
 use super::rows::{load_row, open_row, seal_row, store_row, xor_row};
@@ -9,7 +8,7 @@ use rules::w32::*;
 // A block xored into s0..s11.
 pub(crate) fn xor_block(s: State, b: &[u8]) -> State
     requires { length b.now ≡ rate word32 }
-    ensures { result ≡ xor_block word32 s (was b) }
+    ensures { result ≡ xor_block word32 s b.now }
 {
     let r0 = xor_row(s[0], load_row(&b[0..ROW]));
     let r1 = xor_row(s[1], load_row(&b[ROW..TWO_ROWS]));
@@ -21,7 +20,7 @@ pub(crate) fn xor_block(s: State, b: &[u8]) -> State
 // The state once it took in the message of a full block of ciphertext: the new s0..s11 are that block.
 pub(crate) fn replaced(s: State, c: &[u8]) -> State
     requires { length c.now ≡ rate word32 }
-    ensures { result ≡ xor_block word32 s (xors (rate_of word32 s) (was c)) }
+    ensures { result ≡ xor_block word32 s (xors (rate_of word32 s) c.now) }
 {
     let r0 = load_row(&c[0..ROW]);
     let r1 = load_row(&c[ROW..TWO_ROWS]);
@@ -33,8 +32,8 @@ pub(crate) fn replaced(s: State, c: &[u8]) -> State
 // A block xored in, and the new s0..s11 written.
 pub(crate) fn seal_block(s: State, b: &[u8], out: &mut [u8]) -> State
     requires { (length b.now ≡ rate word32) × (length out.old ≡ rate word32) }
-    ensures state { result ≡ xor_block word32 s (was b) }
-    ensures output { out.new ≡ rate_of word32 (xor_block word32 s (was b)) }
+    ensures state { result ≡ xor_block word32 s b.now }
+    ensures output { out.new ≡ rate_of word32 (xor_block word32 s b.now) }
 {
     let r0 = seal_row(s[0], &b[0..ROW], &mut out[0..ROW]);
     let r1 = seal_row(s[1], &b[ROW..TWO_ROWS], &mut out[ROW..TWO_ROWS]);
@@ -46,8 +45,8 @@ pub(crate) fn seal_block(s: State, b: &[u8], out: &mut [u8]) -> State
 // The message of a block of ciphertext written and taken in.
 pub(crate) fn open_block(s: State, b: &[u8], out: &mut [u8]) -> State
     requires { (length b.now ≡ rate word32) × (length out.old ≡ rate word32) }
-    ensures state { result ≡ xor_block word32 s (xors (rate_of word32 s) (was b)) }
-    ensures output { out.new ≡ rate_of word32 (xor_block word32 s (was b)) }
+    ensures state { result ≡ xor_block word32 s (xors (rate_of word32 s) b.now) }
+    ensures output { out.new ≡ rate_of word32 (xor_block word32 s b.now) }
 {
     let r0 = open_row(s[0], &b[0..ROW], &mut out[0..ROW]);
     let r1 = open_row(s[1], &b[ROW..TWO_ROWS], &mut out[ROW..TWO_ROWS]);
@@ -77,7 +76,7 @@ pub fn rate_bytes(s: State) -> [u8; RATE]
 
 // A block xored into s0..s11; nothing where it has another length.
 pub fn xored(s: State, b: &[u8]) -> State
-    ensures { result ≡ cond (eqb (length (was b)) (rate word32)) (xor_block word32 s (was b)) s }
+    ensures { result ≡ cond (eqb (length b.now) (rate word32)) (xor_block word32 s b.now) s }
 {
     if b.len() == RATE { xor_block(s, b) } else { s }
 }

@@ -1,6 +1,6 @@
 // The mark of a part, as the loop over blocks takes it.
 ghost use Rattle.std.specs.Prelude.{◌≡◌};
-ghost use Rattle.norx.specs.Norx.{marked as markedOf};
+ghost use Rattle.norx.specs.Norx.{marked as marked_of};
 ghost use Rattle.blocks32.specs.Marks.{IsMark, mark_of};
 
 use super::rows::xor_row;
@@ -19,7 +19,7 @@ pub(crate) fn mark(m: u8) -> Mark
 // The mark xored into s15.
 pub(crate) fn marked(s: State, m: Mark) -> State
     requires { IsMark m }
-    ensures { result ≡ markedOf (mark_of m) s }
+    ensures { result ≡ marked_of (mark_of m) s }
 {
     let r0 = s[0];
     let r1 = s[1];

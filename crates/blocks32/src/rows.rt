@@ -1,6 +1,5 @@
 // Rows of four words, and their bytes.
 ghost use Rattle.std.specs.Prelude.{◌≡◌, length};
-ghost use Rattle.norx.specs.Lent.{was};
 ghost use Rattle.norx.specs.Norx.{word32, row_bytes, row_of, bytes_of_row, xor_row};
 
 use super::word::{load, store};
@@ -9,7 +8,7 @@ use rules::w32::*;
 // The row of a row's bytes.
 pub(crate) fn load_row(b: &[u8]) -> Row
     requires { length b.now ≡ row_bytes word32 }
-    ensures { result ≡ row_of word32 (was b) }
+    ensures { result ≡ row_of word32 b.now }
 {
     [
         load(&b[0..WORD]),
@@ -40,8 +39,8 @@ pub(crate) fn xor_row(r: Row, q: Row) -> Row
 // A row xored with bytes, and its bytes then written.
 pub(crate) fn seal_row(r: Row, b: &[u8], out: &mut [u8]) -> Row
     requires { (length b.now ≡ row_bytes word32) × (length out.old ≡ row_bytes word32) }
-    ensures state { result ≡ xor_row r (row_of word32 (was b)) }
-    ensures output { out.new ≡ bytes_of_row word32 (xor_row r (row_of word32 (was b))) }
+    ensures state { result ≡ xor_row r (row_of word32 b.now) }
+    ensures output { out.new ≡ bytes_of_row word32 (xor_row r (row_of word32 b.now)) }
 {
     let x = xor_row(r, load_row(b));
     store_row(x, out);
@@ -51,8 +50,8 @@ pub(crate) fn seal_row(r: Row, b: &[u8], out: &mut [u8]) -> Row
 // The same bytes written; the new row is the one of the bytes that came.
 pub(crate) fn open_row(r: Row, b: &[u8], out: &mut [u8]) -> Row
     requires { (length b.now ≡ row_bytes word32) × (length out.old ≡ row_bytes word32) }
-    ensures state { result ≡ row_of word32 (was b) }
-    ensures output { out.new ≡ bytes_of_row word32 (xor_row r (row_of word32 (was b))) }
+    ensures state { result ≡ row_of word32 b.now }
+    ensures output { out.new ≡ bytes_of_row word32 (xor_row r (row_of word32 b.now)) }
 {
     let x = load_row(b);
     store_row(xor_row(r, x), out);

@@ -1,6 +1,5 @@
 // The loop over full blocks: the mark, P, and a block.
 ghost use Rattle.std.specs.Prelude.{◌≡◌, true, ◌+◌, ◌≤◌, length};
-ghost use Rattle.norx.specs.Lent.{was};
 ghost use Rattle.norx.specs.Turns.{with_block, shown_at, after_all_turns, out_after_turns};
 ghost use Rattle.norx.specs.Norx.{word32, rate, xors, xor_block, rate_of, entered, keyed as keyed_of};
 ghost use Rattle.rules.specs.Rules.{rounds_of};
@@ -42,8 +41,8 @@ fn keyed(k: Row, s: State) -> State
 // A block xored in, and the new s0..s11 written at a place of the output where that is asked for.
 fn seal_at(e: State, writing: bool, b: &[u8], out: &mut [u8], at: usize) -> State
     requires { (length b.now ≡ rate word32) × (writing ≡ true → at + rate word32 ≤ length out.old) }
-    ensures state { result ≡ xor_block word32 e (was b) }
-    ensures output { out.new ≡ shown_at word32 writing (was out) at e (was b) }
+    ensures state { result ≡ xor_block word32 e b.now }
+    ensures output { out.new ≡ shown_at word32 writing out.old at e b.now }
 {
     if writing {
         seal_block(e, b, &mut out[at..at + RATE])
@@ -55,8 +54,8 @@ fn seal_at(e: State, writing: bool, b: &[u8], out: &mut [u8], at: usize) -> Stat
 // A block of ciphertext: its message is taken in, and written at a place of the output where that is asked for.
 fn open_at(e: State, writing: bool, b: &[u8], out: &mut [u8], at: usize) -> State
     requires { (length b.now ≡ rate word32) × (writing ≡ true → at + rate word32 ≤ length out.old) }
-    ensures state { result ≡ xor_block word32 e (xors (rate_of word32 e) (was b)) }
-    ensures output { out.new ≡ shown_at word32 writing (was out) at e (was b) }
+    ensures state { result ≡ xor_block word32 e (xors (rate_of word32 e) b.now) }
+    ensures output { out.new ≡ shown_at word32 writing out.old at e b.now }
 {
     if writing {
         open_block(e, b, &mut out[at..at + RATE])
@@ -68,8 +67,8 @@ fn open_at(e: State, writing: bool, b: &[u8], out: &mut [u8], at: usize) -> Stat
 // A block, sealed or opened.
 fn block_at(e: State, opening: bool, writing: bool, b: &[u8], out: &mut [u8], at: usize) -> State
     requires { (length b.now ≡ rate word32) × (writing ≡ true → at + rate word32 ≤ length out.old) }
-    ensures state { result ≡ with_block word32 opening e (was b) }
-    ensures output { out.new ≡ shown_at word32 writing (was out) at e (was b) }
+    ensures state { result ≡ with_block word32 opening e b.now }
+    ensures output { out.new ≡ shown_at word32 writing out.old at e b.now }
 {
     if opening {
         open_at(e, writing, b, out, at)
@@ -90,8 +89,8 @@ fn turns_keyed(
     out: &mut [u8],
 ) -> State
     requires { IsMark m }
-    ensures state { result ≡ keyed_of k (after_all_turns word32 (rounds_of word32 rounds) (mark_of m) opening s (was d)) }
-    ensures output { out.new ≡ out_after_turns word32 (rounds_of word32 rounds) (mark_of m) opening s (was d) (was out) }
+    ensures state { result ≡ keyed_of k (after_all_turns word32 (rounds_of word32 rounds) (mark_of m) opening s d.now) }
+    ensures output { out.new ≡ out_after_turns word32 (rounds_of word32 rounds) (mark_of m) opening s d.now out.old }
 {
     let mut t = s;
     let n = d.len() / RATE;
@@ -110,8 +109,8 @@ fn turns_keyed(
 // Every full block of a text; what the blocks give is written where the output is as long as the text, and an output of another length stays as it was.
 // A text that has none leaves the state where it is: the loop would hand it through memory once more.
 pub fn turns(s: State, rounds: u32, m: u8, opening: bool, d: &[u8], out: &mut [u8]) -> State
-    ensures state { result ≡ after_all_turns word32 (rounds_of word32 rounds) m opening s (was d) }
-    ensures output { out.new ≡ out_after_turns word32 (rounds_of word32 rounds) m opening s (was d) (was out) }
+    ensures state { result ≡ after_all_turns word32 (rounds_of word32 rounds) m opening s d.now }
+    ensures output { out.new ≡ out_after_turns word32 (rounds_of word32 rounds) m opening s d.now out.old }
 {
     if d.len() < RATE {
         return s;
@@ -121,7 +120,7 @@ pub fn turns(s: State, rounds: u32, m: u8, opening: bool, d: &[u8], out: &mut [u
 
 // Every full block of a text, and then the key, with nothing written: the output has no byte, so only a text with no block is as long.
 fn unwritten_keyed(s: State, rounds: u32, m: u8, opening: bool, k: Row, d: &[u8]) -> State
-    ensures { result ≡ keyed_of k (after_all_turns word32 (rounds_of word32 rounds) m opening s (was d)) }
+    ensures { result ≡ keyed_of k (after_all_turns word32 (rounds_of word32 rounds) m opening s d.now) }
 {
     let mut nothing = [0u8; 0];
     turns_keyed(s, rounds, mark(m), opening, k, d, &mut nothing)
@@ -129,7 +128,7 @@ fn unwritten_keyed(s: State, rounds: u32, m: u8, opening: bool, k: Row, d: &[u8]
 
 // Every full block of a text, with nothing written.
 pub fn unwritten(s: State, rounds: u32, m: u8, opening: bool, d: &[u8]) -> State
-    ensures { result ≡ after_all_turns word32 (rounds_of word32 rounds) m opening s (was d) }
+    ensures { result ≡ after_all_turns word32 (rounds_of word32 rounds) m opening s d.now }
 {
     if d.len() < RATE {
         return s;

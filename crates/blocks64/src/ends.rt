@@ -1,7 +1,6 @@
 // How a state begins, and the tag at its end.
 ghost use Rattle.std.specs.Prelude.{◌≡◌, cond, eqb, length, replicate};
-ghost use Rattle.norx.specs.Lent.{was};
-ghost use Rattle.norx.specs.Norx.{word64, row_bytes, tag_bits, row_of, start as norxStart, tag_of};
+ghost use Rattle.norx.specs.Norx.{word64, row_bytes, tag_bits, row_of, start as norx_start, tag_of};
 ghost use Rattle.rules.specs.Rules.{rounds_of};
 
 use super::rows::{load_row, store_row, xor_row};
@@ -12,14 +11,14 @@ use rules::{NO_MARK, TAG_MARK};
 
 // The words of a key or of a nonce; four zeros where it has not the length of one.
 pub fn row(b: &[u8]) -> Row
-    ensures { result ≡ cond (eqb (length (was b)) (row_bytes word64)) (row_of word64 (was b)) (replicate 4 0) }
+    ensures { result ≡ cond (eqb (length b.now) (row_bytes word64)) (row_of word64 b.now) (replicate 4 0) }
 {
     if b.len() == ROW { load_row(b) } else { [0; 4] }
 }
 
 // The state that a key and a nonce begin with.
 pub fn start(rounds: u32, k: Row, n: Row) -> State
-    ensures { result ≡ norxStart word64 (rounds_of word64 rounds) (tag_bits word64) k n }
+    ensures { result ≡ norx_start word64 (rounds_of word64 rounds) (tag_bits word64) k n }
 {
     let u = upper_constants();
     let r2 = u[0];

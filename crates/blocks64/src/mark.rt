@@ -1,6 +1,6 @@
 // The mark of a part, as the loop over blocks takes it.
 ghost use Rattle.std.specs.Prelude.{◌≡◌};
-ghost use Rattle.norx.specs.Norx.{marked as markedOf};
+ghost use Rattle.norx.specs.Norx.{marked as marked_of};
 ghost use Rattle.blocks64.specs.Marks.{IsMark, mark_of};
 
 use rules::w64::*;
@@ -18,7 +18,7 @@ pub(crate) fn mark(m: u8) -> Mark
 // The mark xored into s15.
 pub(crate) fn marked(s: State, m: Mark) -> State
     requires { IsMark m }
-    ensures { result ≡ markedOf (mark_of m) s }
+    ensures { result ≡ marked_of (mark_of m) s }
 {
     let mut t = s;
     t[3][3] = t[3][3] ^ (m as Word);

@@ -5,24 +5,24 @@ use denote.Triple.Clauses.{AtExit}
 use contract.Lifetimes.{Lfts}
 use borrow.Fn.World.{ArgsD, ResD}
 use borrow.Fn.Kinds.{ended_of}
-use Rattle.cutting.specs.contracts.count.{signature-count}
+use Rattle.cutting.specs.contracts.count.{signature as signature-count}
 use Rattle.cutting.proofs.count.Kinds as kinds-count
-use Rattle.cutting.proofs.count.Reads.{Post-count}
-use Rattle.cutting.specs.contracts.begin.{signature-begin}
+use Rattle.cutting.proofs.count.Reads.{Post as Post-count}
+use Rattle.cutting.specs.contracts.begin.{signature as signature-begin}
 use Rattle.cutting.proofs.begin.Kinds as kinds-begin
-use Rattle.cutting.proofs.begin.Reads.{Post-begin}
-use Rattle.cutting.specs.contracts.end.{signature-end}
+use Rattle.cutting.proofs.begin.Reads.{Post as Post-begin}
+use Rattle.cutting.specs.contracts.end.{signature as signature-end}
 use Rattle.cutting.proofs.end.Kinds as kinds-end
-use Rattle.cutting.proofs.end.Reads.{Post-end}
-use Rattle.cutting.specs.contracts.segment_ok.{signature-segment-ok}
+use Rattle.cutting.proofs.end.Reads.{Post as Post-end}
+use Rattle.cutting.specs.contracts.segment_ok.{signature as signature-segment-ok}
 use Rattle.cutting.proofs.segment_ok.Kinds as kinds-segment-ok
-use Rattle.cutting.proofs.segment_ok.Reads.{Post-segment-ok}
-use Rattle.cutting.specs.contracts.number.{signature-number}
+use Rattle.cutting.proofs.segment_ok.Reads.{Post as Post-segment-ok}
+use Rattle.cutting.specs.contracts.number.{signature as signature-number}
 use Rattle.cutting.proofs.number.Kinds as kinds-number
-use Rattle.cutting.proofs.number.Reads.{Post-number}
-use Rattle.cutting.specs.contracts.take_links.{signature-take-links}
+use Rattle.cutting.proofs.number.Reads.{Post as Post-number}
+use Rattle.cutting.specs.contracts.take_links.{signature as signature-take-links}
 use Rattle.cutting.proofs.take_links.Kinds as kinds-take-links
-use Rattle.cutting.proofs.take_links.Reads.{Post-take-links}
+use Rattle.cutting.proofs.take_links.Reads.{Post as Post-take-links}
 
 pub one_count : (κs : Lfts 0) (a : ArgsD signature-count κs) (r r' : ResD signature-count κs) (s s' : AtExit (ended_of 0 kinds-count.ps kinds-count.r) κs)
     → Post-count κs a r s → Post-count κs a r' s' → r ≡ r'

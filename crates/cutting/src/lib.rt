@@ -1,4 +1,5 @@
 // How a job is cut into segments, which length a segment has, and where a receiver waits: all by numbers.
+#![tactic(auto)]
 ghost use Rattle.std.specs.Prelude.{◌≡◌, ◌%◌};
 ghost use Rattle.norx.specs.Front.{eight_bytes};
 ghost use Rattle.cutting.specs.Cutting.{count_of, begin_of, end_of, segment_ok, sealed_ok, segment_number, take_links};
@@ -8,7 +9,7 @@ use rules::{MOST_SEGMENTS, SEGMENT, SEGMENT_NUMBER};
 use words::w64::store;
 
 // Which segment a receiver waits for, and whether it has taken the last one.
-#[derive(Drop)]
+#[derive(Clone, Copy)]
 pub struct Waiting {
     pub index: u64,
     pub complete: bool,

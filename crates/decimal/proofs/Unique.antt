@@ -7,18 +7,18 @@ use borrow.Fn.World.{ArgsD, ResD}
 use borrow.Fn.Kinds.{ended_of}
 use Rattle.decimal.proofs.Reading.{number_unique}
 use Rattle.decimal.proofs.Runs.{found_unique}
-use Rattle.decimal.specs.contracts.read_number.{signature-read-number}
+use Rattle.decimal.specs.contracts.read_number.{signature as signature-read-number}
 use Rattle.decimal.proofs.read_number.Kinds as kinds-read-number
-use Rattle.decimal.proofs.read_number.Reads.{Post-read-number}
-use Rattle.decimal.specs.contracts.number_at.{signature-number-at}
+use Rattle.decimal.proofs.read_number.Reads.{Post as Post-read-number}
+use Rattle.decimal.specs.contracts.number_at.{signature as signature-number-at}
 use Rattle.decimal.proofs.number_at.Kinds as kinds-number-at
-use Rattle.decimal.proofs.number_at.Reads.{Post-number-at}
-use Rattle.decimal.specs.contracts.number_length.{signature-number-length}
+use Rattle.decimal.proofs.number_at.Reads.{Post as Post-number-at}
+use Rattle.decimal.specs.contracts.number_length.{signature as signature-number-length}
 use Rattle.decimal.proofs.number_length.Kinds as kinds-number-length
-use Rattle.decimal.proofs.number_length.Reads.{Post-number-length}
-use Rattle.decimal.specs.contracts.put_number.{signature-put-number}
+use Rattle.decimal.proofs.number_length.Reads.{Post as Post-number-length}
+use Rattle.decimal.specs.contracts.put_number.{signature as signature-put-number}
 use Rattle.decimal.proofs.put_number.Kinds as kinds-put-number
-use Rattle.decimal.proofs.put_number.Reads.{Post-put-number}
+use Rattle.decimal.proofs.put_number.Reads.{Post as Post-put-number}
 
 pub one_read_number : (κs : Lfts 1) (a : ArgsD signature-read-number κs) (r r' : ResD signature-read-number κs) (s s' : AtExit (ended_of 1 kinds-read-number.ps kinds-read-number.r) κs)
     → Post-read-number κs a r s → Post-read-number κs a r' s' → r ≡ r'

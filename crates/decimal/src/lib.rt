@@ -1,6 +1,6 @@
 // Numbers in text: decimal, without leading zeros.
+#![tactic(auto)]
 ghost use Rattle.std.specs.Prelude.{◌≡◌, [], ◌∷◌, ◌++◌, ◌+◌, ◌≤◌, ◌<◌, length, get_or};
-ghost use Rattle.norx.specs.Lent.{was};
 ghost use Rattle.decimal.specs.Decimal.{num_text, is_digit, NumberIs, FoundIs};
 ghost use Rattle.decimal.specs.Laid.{laid, put_at, put_end};
 
@@ -10,14 +10,14 @@ const MOST: u64 = 0xffff_ffff_ffff_ffff;
 const TENTH: u64 = MOST / 10;
 
 // The number of 64 bits that a word is, or that it is none.
-#[derive(Drop)]
+#[derive(Clone, Copy)]
 pub enum Number {
     Value(u64),
     Nothing,
 }
 
 // The number that the digits at a place are and the place behind them, or that they are none.
-#[derive(Drop)]
+#[derive(Clone, Copy)]
 pub enum Found {
     Here { value: u64, end: usize },
     NoNumber,
@@ -25,7 +25,7 @@ pub enum Found {
 
 // Reads a word as a number: the one whose text it is.
 pub fn read_number(word: &[u8]) -> Number
-    ensures { NumberIs (was word) result }
+    ensures { NumberIs word.now result }
 {
     let Found::Here { value, end } = number_at(word, 0) else {
         return Number::Nothing;
@@ -38,7 +38,7 @@ pub fn read_number(word: &[u8]) -> Number
 
 // Reads the digits that stand at a place, up to the first byte that is none, as a number.
 pub fn number_at(text: &[u8], at: usize) -> Found
-    ensures { FoundIs (was text) at result }
+    ensures { FoundIs text.now at result }
 {
     if text.len() <= at {
         return Found::NoNumber;
@@ -67,7 +67,7 @@ pub fn number_at(text: &[u8], at: usize) -> Found
 // The same where the first digit is 0, behind which no other may stand.
 fn zero_at(text: &[u8], at: usize) -> Found
     requires { (at < length text.now) × (get_or text.now at 0 ≡ 48) }
-    ensures { FoundIs (was text) at result }
+    ensures { FoundIs text.now at result }
 {
     let end = at + 1;
     if end < text.len() {
@@ -129,8 +129,8 @@ pub fn number_length(n: u64) -> usize
 
 // Writes the text of a number at a place, and gives the place behind it; where there is no room for it, nothing is changed, and the place is given back.
 pub fn put_number(n: u64, out: &mut [u8], at: usize) -> usize
-    ensures place { result ≡ put_end (num_text n) at (was out) }
-    ensures text { out.new ≡ put_at (num_text n) at (was out) }
+    ensures place { result ≡ put_end (num_text n) at out.old }
+    ensures text { out.new ≡ put_at (num_text n) at out.old }
 {
     let digits = number_length(n);
     if out.len() <= at {
@@ -147,7 +147,7 @@ pub fn put_number(n: u64, out: &mut [u8], at: usize) -> usize
 // Writes the digits of a number from the last to the first, between two places.
 fn lay_digits(n: u64, out: &mut [u8], at: usize, end: usize)
     requires { (end ≡ at + length (num_text n)) × (end ≤ length out.old) }
-    ensures { out.new ≡ laid (was out) at (num_text n) }
+    ensures { out.new ≡ laid out.old at (num_text n) }
 {
     let mut v = n;
     let mut i = end - 1;

@@ -5,36 +5,36 @@ use denote.Triple.Clauses.{AtExit}
 use contract.Lifetimes.{Lfts}
 use borrow.Fn.World.{ArgsD, ResD}
 use borrow.Fn.Kinds.{ended_of}
-use Rattle.dispatch.specs.contracts.make.{signature-make}
+use Rattle.dispatch.specs.contracts.make.{signature as signature-make}
 use Rattle.dispatch.proofs.make.Kinds as kinds-make
-use Rattle.dispatch.proofs.make.Reads.{Post-make}
-use Rattle.dispatch.specs.contracts.put.{signature-put}
+use Rattle.dispatch.proofs.make.Reads.{Post as Post-make}
+use Rattle.dispatch.specs.contracts.put.{signature as signature-put}
 use Rattle.dispatch.proofs.put.Kinds as kinds-put
-use Rattle.dispatch.proofs.put.Reads.{Post-put}
-use Rattle.dispatch.specs.contracts.constant.{signature-constant}
+use Rattle.dispatch.proofs.put.Reads.{Post as Post-put}
+use Rattle.dispatch.specs.contracts.constant.{signature as signature-constant}
 use Rattle.dispatch.proofs.constant.Kinds as kinds-constant
-use Rattle.dispatch.proofs.constant.Reads.{Post-constant}
-use Rattle.dispatch.specs.contracts.is_call.{signature-is-call}
+use Rattle.dispatch.proofs.constant.Reads.{Post as Post-constant}
+use Rattle.dispatch.specs.contracts.is_call.{signature as signature-is-call}
 use Rattle.dispatch.proofs.is_call.Kinds as kinds-is-call
-use Rattle.dispatch.proofs.is_call.Reads.{Post-is-call}
-use Rattle.dispatch.specs.contracts.jobs.segment.{signature-segment}
+use Rattle.dispatch.proofs.is_call.Reads.{Post as Post-is-call}
+use Rattle.dispatch.specs.contracts.jobs.segment.{signature as signature-segment}
 use Rattle.dispatch.proofs.jobs.segment.Kinds as kinds-segment
-use Rattle.dispatch.proofs.jobs.segment.Reads.{Post-segment}
-use Rattle.dispatch.specs.contracts.jobs.receiver.{signature-receiver}
+use Rattle.dispatch.proofs.jobs.segment.Reads.{Post as Post-segment}
+use Rattle.dispatch.specs.contracts.jobs.receiver.{signature as signature-receiver}
 use Rattle.dispatch.proofs.jobs.receiver.Kinds as kinds-receiver
-use Rattle.dispatch.proofs.jobs.receiver.Reads.{Post-receiver}
-use Rattle.dispatch.specs.contracts.jobs.take.{signature-take}
+use Rattle.dispatch.proofs.jobs.receiver.Reads.{Post as Post-receiver}
+use Rattle.dispatch.specs.contracts.jobs.take.{signature as signature-take}
 use Rattle.dispatch.proofs.jobs.take.Kinds as kinds-take
-use Rattle.dispatch.proofs.jobs.take.Reads.{Post-take}
-use Rattle.dispatch.specs.contracts.jobs.put.{signature-put-receiver}
+use Rattle.dispatch.proofs.jobs.take.Reads.{Post as Post-take}
+use Rattle.dispatch.specs.contracts.jobs.put.{signature as signature-put-receiver}
 use Rattle.dispatch.proofs.jobs.put.Kinds as kinds-put-receiver
-use Rattle.dispatch.proofs.jobs.put.Reads.{Post-put-receiver}
-use Rattle.dispatch.specs.contracts.jobs.list.{signature-list}
+use Rattle.dispatch.proofs.jobs.put.Reads.{Post as Post-put-receiver}
+use Rattle.dispatch.specs.contracts.jobs.list.{signature as signature-list}
 use Rattle.dispatch.proofs.jobs.list.Kinds as kinds-list
-use Rattle.dispatch.proofs.jobs.list.Reads.{Post-list}
-use Rattle.dispatch.specs.contracts.kept.call.{signature-call}
+use Rattle.dispatch.proofs.jobs.list.Reads.{Post as Post-list}
+use Rattle.dispatch.specs.contracts.kept.call.{signature as signature-call}
 use Rattle.dispatch.proofs.kept.call.Kinds as kinds-call
-use Rattle.dispatch.proofs.kept.call.Reads.{Post-call}
+use Rattle.dispatch.proofs.kept.call.Reads.{Post as Post-call}
 
 pub one_make : (κs : Lfts 2) (a : ArgsD signature-make κs) (r r' : ResD signature-make κs) (s s' : AtExit (ended_of 2 kinds-make.ps kinds-make.r) κs)
     → Post-make κs a r s → Post-make κs a r' s' → (r ≡ r') × (s.1.1.1.1.0.now ≡ s'.1.1.1.1.0.now)

@@ -1,6 +1,5 @@
 // All that a program keeps from call to call, and the call of a number on it.
 ghost use Rattle.std.specs.Prelude.{◌≡◌};
-ghost use Rattle.norx.specs.Lent.{was};
 ghost use Rattle.dispatch.specs.Kept.{kept_receiver, kept_session, kept_call, kept_out};
 
 use crate::jobs::{list, receiver, segment, take};
@@ -25,8 +24,8 @@ pub struct KeptStep {
 
 // Makes the call of a number: 10 seals a segment, 11 starts a receiver, 12 takes a segment, 14 writes a list, and any other is one on the session.
 pub fn call(k: usize, a: Words, memory: &[u8], kept: Kept, out: &mut [u8]) -> KeptStep
-    ensures step { result ≡ kept_call k a (was memory) kept (was out) }
-    ensures output { out.new ≡ kept_out k a (was memory) kept (was out) }
+    ensures step { result ≡ kept_call k a memory.now kept out.old }
+    ensures output { out.new ≡ kept_out k a memory.now kept out.old }
 {
     if k == 10 {
         let outcome = segment(a, memory, out);

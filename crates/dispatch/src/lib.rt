@@ -1,6 +1,6 @@
 // The library's calls, their arguments in plain numbers: for programs that are given a call as data. A text is a stretch of one memory.
+#![tactic(auto)]
 ghost use Rattle.std.specs.Prelude.{◌≡◌};
-ghost use Rattle.norx.specs.Lent.{was};
 ghost use Rattle.dispatch.specs.Calls.{low as low_of, stretch_of, part_of, edition_of, terms_of, label_of, outcome_at, out_at, one_call, one_call_out, start_call, piece_call, piece_call_out, close_call, close_call_tag, standing_of, put_call, made_call, made_out, is_call, constant_of};
 
 use answers::Outcome;
@@ -14,7 +14,7 @@ mod w32;
 mod w64;
 
 // The words of a call, in their order: a number, or of a text the place in the memory where it ends; it begins where the text before it ended, the first at 0.
-#[derive(Drop)]
+#[derive(Clone, Copy)]
 pub struct Words {
     pub first: usize,
     pub second: usize,
@@ -38,8 +38,8 @@ const CHECKING: bool = true;
 
 // Makes the call of a number: 1 seals, 2 opens, 3 starts a sealing and 4 a checking session, 5 offers a piece, and any other closes.
 pub fn make(k: usize, a: Words, memory: &[u8], held: Held, out: &mut [u8]) -> HeldStep
-    ensures step { result ≡ made_call k a (was memory) held (was out) }
-    ensures output { out.new ≡ made_out k a (was memory) held (was out) }
+    ensures step { result ≡ made_call k a memory.now held out.old }
+    ensures output { out.new ≡ made_out k a memory.now held out.old }
 {
     if k == 1 {
         return one_call(SEALING, a, memory, held, out);
@@ -73,8 +73,8 @@ pub fn is_call(k: usize, a: Words, held: Held) -> bool
 
 // Opens, or else seals: width, rounds, key, nonce, header, text, trailer.
 fn one_call(opens: bool, a: Words, memory: &[u8], held: Held, out: &mut [u8]) -> HeldStep
-    ensures step { result ≡ one_call a (was memory) opens held (was out) }
-    ensures output { out.new ≡ one_call_out a (was memory) opens (was out) }
+    ensures step { result ≡ one_call a memory.now opens held out.old }
+    ensures output { out.new ≡ one_call_out a memory.now opens out.old }
 {
     let outcome = opened_or_sealed(
         opens,
@@ -107,8 +107,8 @@ fn opened_or_sealed(
     trailer: &[u8],
     out: &mut [u8],
 ) -> Outcome
-    ensures outcome { result ≡ outcome_at opens width rounds (was key) (was nonce) (was header) (was text) (was trailer) (was out) }
-    ensures output { out.new ≡ out_at opens width rounds (was key) (was nonce) (was header) (was text) (was trailer) (was out) }
+    ensures outcome { result ≡ outcome_at opens width rounds key.now nonce.now header.now text.now trailer.now out.old }
+    ensures output { out.new ≡ out_at opens width rounds key.now nonce.now header.now text.now trailer.now out.old }
 {
     if opens {
         sealing::open(width, rounds, key, nonce, header, text, trailer, out)
@@ -119,7 +119,7 @@ fn opened_or_sealed(
 
 // Width, which is 64 or else 32, rounds, key, nonce, job, revision.
 fn start(check: bool, a: Words, memory: &[u8]) -> HeldStep
-    ensures { result ≡ start_call a (was memory) check }
+    ensures { result ≡ start_call a memory.now check }
 {
     Held::start(
         check,
@@ -132,16 +132,16 @@ fn start(check: bool, a: Words, memory: &[u8]) -> HeldStep
 
 // Job, revision, part, offset, bytes.
 fn piece(a: Words, memory: &[u8], held: Held, out: &mut [u8]) -> HeldStep
-    ensures step { result ≡ piece_call a (was memory) held (was out) }
-    ensures output { out.new ≡ piece_call_out a (was memory) held (was out) }
+    ensures step { result ≡ piece_call a memory.now held out.old }
+    ensures output { out.new ≡ piece_call_out a memory.now held out.old }
 {
     held.piece(label(a), stretch(memory, 0, a.fifth), out)
 }
 
 // Job, revision, and the tag that a checking session is given.
 fn close(a: Words, memory: &[u8], held: Held, out: &mut [u8]) -> HeldStep
-    ensures step { result ≡ close_call a (was memory) held (was out) }
-    ensures tag { out.new ≡ close_call_tag a (was memory) held (was out) }
+    ensures step { result ≡ close_call a memory.now held out.old }
+    ensures tag { out.new ≡ close_call_tag a memory.now held out.old }
 {
     held.close(edition(a.first, a.second), stretch(memory, 0, a.third), out)
 }
@@ -174,7 +174,7 @@ pub fn constant(wide: bool, i: usize) -> u64
 
 // The bytes from a place up to another; none where these are no places of the memory in that order.
 pub(crate) fn stretch(memory: &[u8], from: usize, to: usize) -> &[u8]
-    ensures { result.now ≡ stretch_of from to (was memory) }
+    ensures { result.now ≡ stretch_of from to memory.now }
 {
     if memory.len() < to {
         return &memory[0..0];

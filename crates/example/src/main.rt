@@ -1,4 +1,5 @@
 // Seals a job of two lines for revision 12 of job 7, a piece for each line, and checks it in pieces that are cut elsewhere.
+#![tactic(auto)]
 use answers::{Answer, number};
 use libc::STDOUT_FILENO;
 use places::terms::{Edition, Terms};

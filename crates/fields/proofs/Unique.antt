@@ -12,14 +12,14 @@ use denote.Triple.Clauses.{AtExit}
 use borrow.Fn.World.{ArgsD, ResD}
 use borrow.Fn.Kinds.{ended_of}
 use Rattle.fields.specs.declared.Field.{Field}
-use Rattle.fields.specs.contracts.field_at.{signature-field-at}
+use Rattle.fields.specs.contracts.field_at.{signature as signature-field-at}
 use Rattle.fields.proofs.field_at.Kinds as kinds-field-at
-use Rattle.fields.proofs.field_at.Reads.{Post-field-at}
-use Rattle.fields.specs.contracts.field_from.{signature-field-from}
+use Rattle.fields.proofs.field_at.Reads.{Post as Post-field-at}
+use Rattle.fields.specs.contracts.field_from.{signature as signature-field-from}
 use Rattle.fields.proofs.field_from.Kinds as kinds-field-from
-use Rattle.fields.proofs.field_from.Reads.{Post-field-from}
-use Rattle.fields.specs.contracts.read_from.{signature-read-from, ended-read-from, clauses-read-from}
-use Rattle.fields.specs.contracts.next_field.{signature-next-field, ended-next-field, clauses-next-field}
+use Rattle.fields.proofs.field_from.Reads.{Post as Post-field-from}
+use Rattle.fields.specs.contracts.read_from.{signature as signature-read-from, ended as ended-read-from, clauses as clauses-read-from}
+use Rattle.fields.specs.contracts.next_field.{signature as signature-next-field, ended as ended-next-field, clauses as clauses-next-field}
 
 pub one_field_at : (κs : Lfts 1) (a : ArgsD signature-field-at κs) (r r' : ResD signature-field-at κs) (s s' : AtExit (ended_of 1 kinds-field-at.ps kinds-field-at.r) κs)
     → Post-field-at κs a r s → Post-field-at κs a r' s' → r ≡ r'

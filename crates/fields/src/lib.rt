@@ -1,10 +1,10 @@
 // A text read field by field, without copying it: a tab, a newline or the text's end ends a field.
+#![tactic(auto)]
 ghost use Rattle.std.specs.Prelude.{◌≡◌};
-ghost use Rattle.norx.specs.Lent.{was};
 ghost use Rattle.fields.specs.Fields.{field_at};
 
 // Where a field begins and ends, and the place behind what ended it.
-#[derive(Drop)]
+#[derive(Clone, Copy)]
 pub struct Field {
     pub from: usize,
     pub to: usize,
@@ -12,7 +12,7 @@ pub struct Field {
 }
 
 // A lent text, and a place in it.
-#[derive(Drop)]
+#[derive(Clone, Copy)]
 pub struct Reader<'a> {
     pub text: &'a [u8],
     pub at: usize,
@@ -20,7 +20,7 @@ pub struct Reader<'a> {
 
 // The field of a text at a place; a place past the end of the text is its end.
 pub fn field_at(text: &[u8], at: usize) -> Field
-    ensures { result ≡ field_at (was text) at }
+    ensures { result ≡ field_at text.now at }
 {
     let n = text.len();
     if n <= at {
@@ -58,7 +58,7 @@ pub fn read_from<'a>(text: &'a [u8]) -> Reader<'a>
 
 // The field at the reader's place, which the reader steps past.
 pub fn next_field<'s, 'a>(r: &'s mut Reader<'a>) -> Field
-    ensures { (result ≡ field_at (was r).text.now (was r).at) × (r.new.text ≡ (was r).text) × (r.new.at ≡ result.next) }
+    ensures { (result ≡ field_at r.old.text.now r.old.at) × (r.new.text ≡ r.old.text) × (r.new.at ≡ result.next) }
 {
     let f = field_at(r.text, r.at);
     r.at = f.next;
@@ -67,7 +67,7 @@ pub fn next_field<'s, 'a>(r: &'s mut Reader<'a>) -> Field
 
 // The field that a reader at a place of a text gives next.
 pub fn field_from(text: &[u8], at: usize) -> Field
-    ensures { result ≡ field_at (was text) at }
+    ensures { result ≡ field_at text.now at }
 {
     let mut reader = Reader { text, at };
     next_field(&mut reader)

@@ -5,36 +5,36 @@ use denote.Triple.Clauses.{AtExit}
 use contract.Lifetimes.{Lfts}
 use borrow.Fn.World.{ArgsD, ResD}
 use borrow.Fn.Kinds.{ended_of}
-use Rattle.held.specs.contracts.Held.closed.{signature-closed}
+use Rattle.held.specs.contracts.Held.closed.{signature as signature-closed}
 use Rattle.held.proofs.Held.closed.Kinds as kinds-closed
-use Rattle.held.proofs.Held.closed.Reads.{Post-closed}
-use Rattle.held.specs.contracts.Held.start.{signature-start}
+use Rattle.held.proofs.Held.closed.Reads.{Post as Post-closed}
+use Rattle.held.specs.contracts.Held.start.{signature as signature-start}
 use Rattle.held.proofs.Held.start.Kinds as kinds-start
-use Rattle.held.proofs.Held.start.Reads.{Post-start}
-use Rattle.held.specs.contracts.Held.piece.{signature-piece}
+use Rattle.held.proofs.Held.start.Reads.{Post as Post-start}
+use Rattle.held.specs.contracts.Held.piece.{signature as signature-piece}
 use Rattle.held.proofs.Held.piece.Kinds as kinds-piece
-use Rattle.held.proofs.Held.piece.Reads.{Post-piece}
-use Rattle.held.specs.contracts.Held.close.{signature-close}
+use Rattle.held.proofs.Held.piece.Reads.{Post as Post-piece}
+use Rattle.held.specs.contracts.Held.close.{signature as signature-close}
 use Rattle.held.proofs.Held.close.Kinds as kinds-close
-use Rattle.held.proofs.Held.close.Reads.{Post-close}
-use Rattle.held.specs.contracts.Held.word.{signature-word}
+use Rattle.held.proofs.Held.close.Reads.{Post as Post-close}
+use Rattle.held.specs.contracts.Held.word.{signature as signature-word}
 use Rattle.held.proofs.Held.word.Kinds as kinds-word
-use Rattle.held.proofs.Held.word.Reads.{Post-word}
-use Rattle.held.specs.contracts.receiver.HeldReceiver.none.{signature-receiver-none}
+use Rattle.held.proofs.Held.word.Reads.{Post as Post-word}
+use Rattle.held.specs.contracts.receiver.HeldReceiver.none.{signature as signature-receiver-none}
 use Rattle.held.proofs.receiver.HeldReceiver.none.Kinds as kinds-receiver-none
-use Rattle.held.proofs.receiver.HeldReceiver.none.Reads.{Post-receiver-none}
-use Rattle.held.specs.contracts.receiver.HeldReceiver.start.{signature-receiver-start}
+use Rattle.held.proofs.receiver.HeldReceiver.none.Reads.{Post as Post-receiver-none}
+use Rattle.held.specs.contracts.receiver.HeldReceiver.start.{signature as signature-receiver-start}
 use Rattle.held.proofs.receiver.HeldReceiver.start.Kinds as kinds-receiver-start
-use Rattle.held.proofs.receiver.HeldReceiver.start.Reads.{Post-receiver-start}
-use Rattle.held.specs.contracts.receiver.HeldReceiver.take.{signature-receiver-take}
+use Rattle.held.proofs.receiver.HeldReceiver.start.Reads.{Post as Post-receiver-start}
+use Rattle.held.specs.contracts.receiver.HeldReceiver.take.{signature as signature-receiver-take}
 use Rattle.held.proofs.receiver.HeldReceiver.take.Kinds as kinds-receiver-take
-use Rattle.held.proofs.receiver.HeldReceiver.take.Reads.{Post-receiver-take}
-use Rattle.held.specs.contracts.receiver.HeldReceiver.waiting.{signature-receiver-waiting}
+use Rattle.held.proofs.receiver.HeldReceiver.take.Reads.{Post as Post-receiver-take}
+use Rattle.held.specs.contracts.receiver.HeldReceiver.waiting.{signature as signature-receiver-waiting}
 use Rattle.held.proofs.receiver.HeldReceiver.waiting.Kinds as kinds-receiver-waiting
-use Rattle.held.proofs.receiver.HeldReceiver.waiting.Reads.{Post-receiver-waiting}
-use Rattle.held.specs.contracts.receiver.HeldReceiver.put.{signature-receiver-put}
+use Rattle.held.proofs.receiver.HeldReceiver.waiting.Reads.{Post as Post-receiver-waiting}
+use Rattle.held.specs.contracts.receiver.HeldReceiver.put.{signature as signature-receiver-put}
 use Rattle.held.proofs.receiver.HeldReceiver.put.Kinds as kinds-receiver-put
-use Rattle.held.proofs.receiver.HeldReceiver.put.Reads.{Post-receiver-put}
+use Rattle.held.proofs.receiver.HeldReceiver.put.Reads.{Post as Post-receiver-put}
 
 pub one_closed : (κs : Lfts 0) (a : ArgsD signature-closed κs) (r r' : ResD signature-closed κs) (s s' : AtExit (ended_of 0 kinds-closed.ps kinds-closed.r) κs)
     → Post-closed κs a r s → Post-closed κs a r' s' → r ≡ r'

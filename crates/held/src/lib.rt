@@ -1,6 +1,6 @@
 // A session of either kind and width, in plain numbers: for programs that are told by data which it is.
+#![tactic(auto)]
 ghost use Rattle.std.specs.Prelude.{◌≡◌};
-ghost use Rattle.norx.specs.Lent.{was};
 ghost use Rattle.held.specs.Held.{closed_held, held_start, held_piece, held_piece_out, held_close, held_tag, held_word};
 
 use answers::Answer;
@@ -49,7 +49,7 @@ impl Held {
 
     // Starts a session of a kind and a width; the closed session where the start is refused.
     pub fn start(check: bool, wide: bool, key: &[u8], nonce: &[u8], terms: Terms) -> HeldStep
-        ensures { result ≡ held_start check wide (was key) (was nonce) terms }
+        ensures { result ≡ held_start check wide key.now nonce.now terms }
     {
         let h = Held::closed(check, wide);
         if wide {
@@ -61,8 +61,8 @@ impl Held {
 
     // Offers a piece; a checking session leaves the output alone.
     pub fn piece(self, label: Label, bytes: &[u8], out: &mut [u8]) -> HeldStep
-        ensures step { result ≡ held_piece self label (was bytes) (was out) }
-        ensures output { out.new ≡ held_piece_out self label (was bytes) (was out) }
+        ensures step { result ≡ held_piece self label bytes.now out.old }
+        ensures output { out.new ≡ held_piece_out self label bytes.now out.old }
     {
         if self.wide {
             w64::piece(self, label, bytes, out)
@@ -73,8 +73,8 @@ impl Held {
 
     // Closes: a sealing session writes its tag, a checking session holds its own to the one that is given.
     pub fn close(self, edition: Edition, given: &[u8], tag: &mut [u8]) -> HeldStep
-        ensures step { result ≡ held_close self edition (was given) (was tag) }
-        ensures tag { tag.new ≡ held_tag self edition (was tag) }
+        ensures step { result ≡ held_close self edition given.now tag.old }
+        ensures tag { tag.new ≡ held_tag self edition tag.old }
     {
         if self.wide {
             w64::close(self, edition, given, tag)

@@ -1,6 +1,5 @@
 // A receiver of either width: for programs that are told by data which it is.
 ghost use Rattle.std.specs.Prelude.{◌≡◌};
-ghost use Rattle.norx.specs.Lent.{was};
 ghost use Rattle.held.specs.Receivers.{held_none, held_started, held_taken, held_taken_out, held_waiting, held_put};
 
 use answers::Answer;
@@ -40,7 +39,7 @@ impl HeldReceiver {
 
     // Starts a receiver of a width.
     pub fn start(wide: bool, key: &[u8], nonce: &[u8], terms: Terms) -> HeldReceiverStep
-        ensures { result ≡ held_started wide (was key) (was nonce) terms }
+        ensures { result ≡ held_started wide key.now nonce.now terms }
     {
         let mut held = HeldReceiver::none(wide);
         if wide {
@@ -74,8 +73,8 @@ impl HeldReceiver {
         sealed: &[u8],
         out: &mut [u8],
     ) -> HeldReceiverStep
-        ensures step { result ≡ held_taken self (was note) last (was sealed) (was out) }
-        ensures output { out.new ≡ held_taken_out self (was note) last (was sealed) (was out) }
+        ensures step { result ≡ held_taken self note.now last sealed.now out.old }
+        ensures output { out.new ≡ held_taken_out self note.now last sealed.now out.old }
     {
         if self.wide {
             let own = self.broad;

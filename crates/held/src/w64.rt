@@ -1,6 +1,5 @@
 // Sessions at 64-bit words: made of what is held, called, and held again.
 ghost use Rattle.std.specs.Prelude.{◌≡◌};
-ghost use Rattle.norx.specs.Lent.{was};
 ghost use Rattle.session64.specs.Kinds.{sealing64, checking64};
 ghost use Rattle.held.specs.Held.{side64, session_of, step_of, close_step_of, start_at, piece_at, piece_out_at, close_at, close_tag_at, word_at};
 
@@ -12,7 +11,7 @@ use session64::check::{Checking, CheckingClose, CheckingStep};
 use session64::seal::{Sealing, SealingClose, SealingStep};
 
 pub(crate) fn start(h: Held, key: &[u8], nonce: &[u8], terms: Terms) -> HeldStep
-    ensures { result ≡ start_at side64 h (was key) (was nonce) terms }
+    ensures { result ≡ start_at side64 h key.now nonce.now terms }
 {
     if h.check {
         after_check(h, Checking::start(key, nonce, terms))
@@ -22,8 +21,8 @@ pub(crate) fn start(h: Held, key: &[u8], nonce: &[u8], terms: Terms) -> HeldStep
 }
 
 pub(crate) fn piece(h: Held, label: Label, bytes: &[u8], out: &mut [u8]) -> HeldStep
-    ensures step { result ≡ piece_at side64 h label (was bytes) (was out) }
-    ensures output { out.new ≡ piece_out_at side64 h label (was bytes) (was out) }
+    ensures step { result ≡ piece_at side64 h label bytes.now out.old }
+    ensures output { out.new ≡ piece_out_at side64 h label bytes.now out.old }
 {
     if h.check {
         after_check(h, checking(h).piece(label, bytes))
@@ -33,8 +32,8 @@ pub(crate) fn piece(h: Held, label: Label, bytes: &[u8], out: &mut [u8]) -> Held
 }
 
 pub(crate) fn close(h: Held, edition: Edition, given: &[u8], tag: &mut [u8]) -> HeldStep
-    ensures step { result ≡ close_at side64 h edition (was given) (was tag) }
-    ensures tag { tag.new ≡ close_tag_at side64 h edition (was tag) }
+    ensures step { result ≡ close_at side64 h edition given.now tag.old }
+    ensures tag { tag.new ≡ close_tag_at side64 h edition tag.old }
 {
     if h.check {
         after_check_close(h, checking(h).close(edition, given))

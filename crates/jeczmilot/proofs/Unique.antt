@@ -7,27 +7,27 @@ use borrow.Fn.World.{ArgsD, ResD}
 use borrow.Fn.Kinds.{ended_of}
 use Rattle.jeczmilot.proofs.Outcomes.{one_pair}
 use Rattle.jeczmilot.proofs.Readings.{numbers_once}
-use Rattle.jeczmilot.specs.contracts.norx_seal.{signature-norx-seal}
+use Rattle.jeczmilot.specs.contracts.norx_seal.{signature as signature-norx-seal}
 use Rattle.jeczmilot.proofs.norx_seal.Kinds as kinds-norx-seal
-use Rattle.jeczmilot.proofs.norx_seal.Reads.{Post-norx-seal}
-use Rattle.jeczmilot.specs.contracts.norx_open.{signature-norx-open}
+use Rattle.jeczmilot.proofs.norx_seal.Reads.{Post as Post-norx-seal}
+use Rattle.jeczmilot.specs.contracts.norx_open.{signature as signature-norx-open}
 use Rattle.jeczmilot.proofs.norx_open.Kinds as kinds-norx-open
-use Rattle.jeczmilot.proofs.norx_open.Reads.{Post-norx-open}
-use Rattle.jeczmilot.specs.contracts.norx_segment_seal.{signature-norx-segment-seal}
+use Rattle.jeczmilot.proofs.norx_open.Reads.{Post as Post-norx-open}
+use Rattle.jeczmilot.specs.contracts.norx_segment_seal.{signature as signature-norx-segment-seal}
 use Rattle.jeczmilot.proofs.norx_segment_seal.Kinds as kinds-norx-segment-seal
-use Rattle.jeczmilot.proofs.norx_segment_seal.Reads.{Post-norx-segment-seal}
-use Rattle.jeczmilot.specs.contracts.norx_segment_open.{signature-norx-segment-open}
+use Rattle.jeczmilot.proofs.norx_segment_seal.Reads.{Post as Post-norx-segment-seal}
+use Rattle.jeczmilot.specs.contracts.norx_segment_open.{signature as signature-norx-segment-open}
 use Rattle.jeczmilot.proofs.norx_segment_open.Kinds as kinds-norx-segment-open
-use Rattle.jeczmilot.proofs.norx_segment_open.Reads.{Post-norx-segment-open}
-use Rattle.jeczmilot.specs.contracts.norx_list_length.{signature-norx-list-length}
+use Rattle.jeczmilot.proofs.norx_segment_open.Reads.{Post as Post-norx-segment-open}
+use Rattle.jeczmilot.specs.contracts.norx_list_length.{signature as signature-norx-list-length}
 use Rattle.jeczmilot.proofs.norx_list_length.Kinds as kinds-norx-list-length
-use Rattle.jeczmilot.proofs.norx_list_length.Reads.{Post-norx-list-length}
-use Rattle.jeczmilot.specs.contracts.norx_list_write.{signature-norx-list-write}
+use Rattle.jeczmilot.proofs.norx_list_length.Reads.{Post as Post-norx-list-length}
+use Rattle.jeczmilot.specs.contracts.norx_list_write.{signature as signature-norx-list-write}
 use Rattle.jeczmilot.proofs.norx_list_write.Kinds as kinds-norx-list-write
-use Rattle.jeczmilot.proofs.norx_list_write.Reads.{Post-norx-list-write}
-use Rattle.jeczmilot.specs.contracts.norx_list_read.{signature-norx-list-read}
+use Rattle.jeczmilot.proofs.norx_list_write.Reads.{Post as Post-norx-list-write}
+use Rattle.jeczmilot.specs.contracts.norx_list_read.{signature as signature-norx-list-read}
 use Rattle.jeczmilot.proofs.norx_list_read.Kinds as kinds-norx-list-read
-use Rattle.jeczmilot.proofs.norx_list_read.Reads.{Post-norx-list-read}
+use Rattle.jeczmilot.proofs.norx_list_read.Reads.{Post as Post-norx-list-read}
 
 pub one_norx_seal : (κs : Lfts 6) (a : ArgsD signature-norx-seal κs) (r r' : ResD signature-norx-seal κs) (s s' : AtExit (ended_of 6 kinds-norx-seal.ps kinds-norx-seal.r) κs)
     → Post-norx-seal κs a r s → Post-norx-seal κs a r' s' → (r ≡ r') × (s.1.1.1.1.1.1.1.0.now ≡ s'.1.1.1.1.1.1.1.0.now)

@@ -1,6 +1,6 @@
 // The C host's library: sealing and opening in one call, and segment by segment, and lists of segments as text, on numbers and byte slices.
+#![tactic(auto)]
 ghost use Rattle.std.specs.Prelude.{◌≡◌};
-ghost use Rattle.norx.specs.Lent.{was};
 ghost use Rattle.answers.specs.Answers.{number_of};
 ghost use Rattle.sealing.specs.Widths.{seal_answer_at, seal_runs_at, seal_out_at, open_answer_at, open_runs_at, open_out_at};
 ghost use Rattle.sealing.specs.Promises.{SealsAt, OpensAt};
@@ -16,7 +16,7 @@ use places::terms::{Edition, Terms};
 
 // The number of an answer, and how many times P ran.
 #[repr(C)]
-#[derive(Drop)]
+#[derive(Clone, Copy)]
 pub struct OutcomeNumbers {
     pub answer: u32,
     pub runs: u32,
@@ -45,10 +45,10 @@ pub extern "C" fn norx_seal(
     trailer: &[u8],
     out: &mut [u8],
 ) -> OutcomeNumbers
-    ensures answer { result.answer ≡ number_of (seal_answer_at width rounds (was key) (was nonce) (was header) (was body) (was trailer) (was out)) }
-    ensures runs { result.runs ≡ seal_runs_at width rounds (was key) (was nonce) (was header) (was body) (was trailer) (was out) }
-    ensures output { out.new ≡ seal_out_at width rounds (was key) (was nonce) (was header) (was body) (was trailer) (was out) }
-    ensures promise { SealsAt width rounds (was key) (was nonce) (was header) (was body) (was trailer) (was out) result.answer result.runs out.new }
+    ensures answer { result.answer ≡ number_of (seal_answer_at width rounds key.now nonce.now header.now body.now trailer.now out.old) }
+    ensures runs { result.runs ≡ seal_runs_at width rounds key.now nonce.now header.now body.now trailer.now out.old }
+    ensures output { out.new ≡ seal_out_at width rounds key.now nonce.now header.now body.now trailer.now out.old }
+    ensures promise { SealsAt width rounds key.now nonce.now header.now body.now trailer.now out.old result.answer result.runs out.new }
 {
     numbers(sealing::seal(width, rounds, key, nonce, header, body, trailer, out))
 }
@@ -65,10 +65,10 @@ pub extern "C" fn norx_open(
     trailer: &[u8],
     out: &mut [u8],
 ) -> OutcomeNumbers
-    ensures answer { result.answer ≡ number_of (open_answer_at width rounds (was key) (was nonce) (was header) (was sealed) (was trailer) (was out)) }
-    ensures runs { result.runs ≡ open_runs_at width rounds (was key) (was nonce) (was header) (was sealed) (was trailer) (was out) }
-    ensures output { out.new ≡ open_out_at width rounds (was key) (was nonce) (was header) (was sealed) (was trailer) (was out) }
-    ensures promise { OpensAt width rounds (was key) (was nonce) (was header) (was sealed) (was trailer) (was out) result.answer result.runs out.new }
+    ensures answer { result.answer ≡ number_of (open_answer_at width rounds key.now nonce.now header.now sealed.now trailer.now out.old) }
+    ensures runs { result.runs ≡ open_runs_at width rounds key.now nonce.now header.now sealed.now trailer.now out.old }
+    ensures output { out.new ≡ open_out_at width rounds key.now nonce.now header.now sealed.now trailer.now out.old }
+    ensures promise { OpensAt width rounds key.now nonce.now header.now sealed.now trailer.now out.old result.answer result.runs out.new }
 {
     numbers(sealing::open(width, rounds, key, nonce, header, sealed, trailer, out))
 }
@@ -106,9 +106,9 @@ pub extern "C" fn norx_segment_seal(
     body: &[u8],
     out: &mut [u8],
 ) -> OutcomeNumbers
-    ensures answer { result.answer ≡ number_of (segment_answer_at width (was key) (was nonce) (terms_of rounds job revision) (was note) index (yes last) (was body) (was out)) }
-    ensures runs { result.runs ≡ segment_runs_at width (was key) (was nonce) (terms_of rounds job revision) (was note) index (yes last) (was body) (was out) }
-    ensures output { out.new ≡ segment_out_at width (was key) (was nonce) (terms_of rounds job revision) (was note) index (yes last) (was body) (was out) }
+    ensures answer { result.answer ≡ number_of (segment_answer_at width key.now nonce.now (terms_of rounds job revision) note.now index (yes last) body.now out.old) }
+    ensures runs { result.runs ≡ segment_runs_at width key.now nonce.now (terms_of rounds job revision) note.now index (yes last) body.now out.old }
+    ensures output { out.new ≡ segment_out_at width key.now nonce.now (terms_of rounds job revision) note.now index (yes last) body.now out.old }
 {
     let terms = terms(rounds, job, revision);
     numbers(segments::seal(width, key, nonce, terms, note, index, last != 0, body, out))
@@ -130,9 +130,9 @@ pub extern "C" fn norx_segment_open(
     sealed: &[u8],
     out: &mut [u8],
 ) -> OutcomeNumbers
-    ensures answer { result.answer ≡ number_of (take_answer_at width (was key) (was nonce) (terms_of rounds job revision) (was note) (waiting_of index complete) (yes last) (was sealed) (was out)) }
-    ensures runs { result.runs ≡ take_runs_at width (was key) (was nonce) (terms_of rounds job revision) (was note) (waiting_of index complete) (yes last) (was sealed) (was out) }
-    ensures output { out.new ≡ take_out_at width (was key) (was nonce) (terms_of rounds job revision) (was note) (waiting_of index complete) (yes last) (was sealed) (was out) }
+    ensures answer { result.answer ≡ number_of (take_answer_at width key.now nonce.now (terms_of rounds job revision) note.now (waiting_of index complete) (yes last) sealed.now out.old) }
+    ensures runs { result.runs ≡ take_runs_at width key.now nonce.now (terms_of rounds job revision) note.now (waiting_of index complete) (yes last) sealed.now out.old }
+    ensures output { out.new ≡ take_out_at width key.now nonce.now (terms_of rounds job revision) note.now (waiting_of index complete) (yes last) sealed.now out.old }
 {
     let terms = terms(rounds, job, revision);
     let waiting = waiting(index, complete);
@@ -151,7 +151,7 @@ pub extern "C" fn norx_segment_open(
 
 // What a text is read as: the number of its first bad line and four zeros; or 0 and the job, the revision, the segments and the body length of the list that it is.
 #[repr(C)]
-#[derive(Drop)]
+#[derive(Clone, Copy)]
 pub struct ListNumbers {
     pub bad: u64,
     pub job: u64,
@@ -171,8 +171,8 @@ pub extern "C" fn norx_list_length(job: u64, revision: u64, body: u64) -> usize
 // Writes the list of a body of so many bytes; the answer is its number.
 #[unsafe(no_mangle)]
 pub extern "C" fn norx_list_write(job: u64, revision: u64, body: u64, out: &mut [u8]) -> u32
-    ensures answer { result ≡ number_of (write_answer job revision body (was out)) }
-    ensures output { out.new ≡ write_out job revision body (was out) }
+    ensures answer { result ≡ number_of (write_answer job revision body out.old) }
+    ensures output { out.new ≡ write_out job revision body out.old }
 {
     number(lists::write_list(job, revision, body, out))
 }
@@ -180,7 +180,7 @@ pub extern "C" fn norx_list_write(job: u64, revision: u64, body: u64, out: &mut 
 // Reads a text as a list.
 #[unsafe(no_mangle)]
 pub extern "C" fn norx_list_read(text: &[u8]) -> ListNumbers
-    ensures { ReadAsNumbers (was text) result }
+    ensures { ReadAsNumbers text.now result }
 {
     match lists::read_list(text) {
         Reading::Taken {

@@ -6,15 +6,15 @@ use contract.Lifetimes.{Lfts}
 use borrow.Fn.World.{ArgsD, ResD}
 use borrow.Fn.Kinds.{ended_of}
 use Rattle.lists.proofs.Exact.{read_once}
-use Rattle.lists.specs.contracts.list_length.{signature-list-length}
+use Rattle.lists.specs.contracts.list_length.{signature as signature-list-length}
 use Rattle.lists.proofs.list_length.Kinds as kinds-list-length
-use Rattle.lists.proofs.list_length.Reads.{Post-list-length}
-use Rattle.lists.specs.contracts.write_list.{signature-write-list}
+use Rattle.lists.proofs.list_length.Reads.{Post as Post-list-length}
+use Rattle.lists.specs.contracts.write_list.{signature as signature-write-list}
 use Rattle.lists.proofs.write_list.Kinds as kinds-write-list
-use Rattle.lists.proofs.write_list.Reads.{Post-write-list}
-use Rattle.lists.specs.contracts.read_list.{signature-read-list}
+use Rattle.lists.proofs.write_list.Reads.{Post as Post-write-list}
+use Rattle.lists.specs.contracts.read_list.{signature as signature-read-list}
 use Rattle.lists.proofs.read_list.Kinds as kinds-read-list
-use Rattle.lists.proofs.read_list.Reads.{Post-read-list}
+use Rattle.lists.proofs.read_list.Reads.{Post as Post-read-list}
 
 pub one_list_length : (κs : Lfts 0) (a : ArgsD signature-list-length κs) (r r' : ResD signature-list-length κs) (s s' : AtExit (ended_of 0 kinds-list-length.ps kinds-list-length.r) κs)
     → Post-list-length κs a r s → Post-list-length κs a r' s' → r ≡ r'

@@ -1,6 +1,6 @@
 // A list of segments as text: one segment a line, the fields job, revision, index and body length parted by tabs, each line ended by a newline.
+#![tactic(auto)]
 ghost use Rattle.std.specs.Prelude.{◌≡◌, ◌*◌, ◌≤◌, length};
-ghost use Rattle.norx.specs.Lent.{was};
 ghost use Rattle.rules.specs.Rules.{most_segments};
 ghost use Rattle.lists.specs.Lists.{segment_length, list_text};
 ghost use Rattle.lists.specs.Pieces.{index_digits, lines_behind};
@@ -18,7 +18,7 @@ mod put;
 use line::{Line, Segment, first_ok, line_at, segment_at};
 
 // What a list says: its job and revision, how many segments there are, and the bytes of the body; or the number, from 1, of the first bad line.
-#[derive(Drop)]
+#[derive(Clone, Copy)]
 pub enum Reading {
     Taken {
         job: u64,
@@ -71,8 +71,8 @@ fn index_digits(n: u64) -> usize
 
 // Writes the list of a job: 4 where the body is too long, then 5 where the output has not the list's length.
 pub fn write_list(job: u64, revision: u64, body: u64, out: &mut [u8]) -> Answer
-    ensures answer { result ≡ write_answer job revision body (was out) }
-    ensures output { out.new ≡ write_out job revision body (was out) }
+    ensures answer { result ≡ write_answer job revision body out.old }
+    ensures output { out.new ≡ write_out job revision body out.old }
 {
     let exact = out.len() == list_length(job, revision, body);
     let answer = need(
@@ -99,7 +99,7 @@ fn write_lines(job: u64, revision: u64, body: u64, out: &mut [u8])
 // The same with the front that every line has.
 fn write_behind(front: &[u8], body: u64, out: &mut [u8])
     requires { length out.old ≡ length (lines_behind front.now body) }
-    ensures { out.new ≡ lines_behind (was front) body }
+    ensures { out.new ≡ lines_behind front.now body }
 {
     let lines = count(body);
     let mut at: usize = 0;
@@ -112,7 +112,7 @@ fn write_behind(front: &[u8], body: u64, out: &mut [u8])
 
 // Reads a text as a list, in one pass: taken exactly where it is one that the writer can write.
 pub fn read_list(text: &[u8]) -> Reading
-    ensures { ReadAs (was text) result }
+    ensures { ReadAs text.now result }
 {
     let Line::Fields {
         job,

@@ -1,7 +1,6 @@
 // One line of a list, read at a place of a text.
 ghost use Rattle.std.specs.Prelude.{◌≡◌, ◌+◌, ◌<◌, ◌≤◌, length, take, drop};
-ghost use Rattle.norx.specs.Lent.{was};
-ghost use Rattle.norx.specs.Norx.{same as sameOf};
+ghost use Rattle.norx.specs.Norx.{same as same_of};
 ghost use Rattle.fields.specs.Fields.{newline};
 ghost use Rattle.lists.specs.Places.{ended_by, PartIs, LineIs, is_first, RestIs, SegmentIs};
 
@@ -11,14 +10,14 @@ use rules::SEGMENT;
 use texts::same;
 
 // A number and the place behind the byte that ended it, or that no number ended so stands there.
-#[derive(Drop)]
+#[derive(Clone, Copy)]
 pub enum Part {
     Number { value: u64, next: usize },
     NoPart,
 }
 
 // The four numbers of a line and the place behind it, or that no line stands there.
-#[derive(Drop)]
+#[derive(Clone, Copy)]
 pub enum Line {
     Fields {
         job: u64,
@@ -31,7 +30,7 @@ pub enum Line {
 }
 
 // The body length that the awaited line says and the place behind it, or that another line or none stands there.
-#[derive(Drop)]
+#[derive(Clone, Copy)]
 pub enum Segment {
     Length { body: u64, next: usize },
     NoSegment,
@@ -39,7 +38,7 @@ pub enum Segment {
 
 // Whether the byte stop stands at a place; at the text's end none does.
 fn ended_by(text: &[u8], at: usize, stop: u8) -> bool
-    ensures { result ≡ ended_by (was text) at stop }
+    ensures { result ≡ ended_by text.now at stop }
 {
     let mut ended = false;
     if at < text.len() {
@@ -51,7 +50,7 @@ fn ended_by(text: &[u8], at: usize, stop: u8) -> bool
 // The number at a place, where the byte stop ends it.
 fn part_at(text: &[u8], at: usize, stop: u8) -> Part
     requires { stop < 48 }
-    ensures { PartIs (was text) at stop result }
+    ensures { PartIs text.now at stop result }
 {
     let Found::Here { value, end } = number_at(text, at) else {
         return Part::NoPart;
@@ -67,7 +66,7 @@ fn part_at(text: &[u8], at: usize, stop: u8) -> Part
 
 // The line at a place.
 pub(crate) fn line_at(text: &[u8], at: usize) -> Line
-    ensures { LineIs (was text) at result }
+    ensures { LineIs text.now at result }
 {
     let Part::Number {
         value: job,
@@ -116,7 +115,7 @@ pub(crate) fn first_ok(index: u64, body: u64) -> bool
 // The number at a place that a newline ends, quickly where it is that of a full segment.
 fn body_at(text: &[u8], at: usize) -> Part
     requires { at ≤ length text.now }
-    ensures { PartIs (was text) at newline result }
+    ensures { PartIs text.now at newline result }
 {
     let full = *b"65536\n";
     if full.len() <= text.len() - at {
@@ -133,7 +132,7 @@ fn body_at(text: &[u8], at: usize) -> Part
 
 // Index i and a body length at a place; as the body may end there, any length of a last segment.
 fn rest_at(text: &[u8], at: usize, i: u64) -> Segment
-    ensures { RestIs (was text) at i result }
+    ensures { RestIs text.now at i result }
 {
     let Part::Number {
         value: index,
@@ -157,7 +156,7 @@ fn rest_at(text: &[u8], at: usize, i: u64) -> Segment
 // Whether the n bytes at two places are the same.
 fn alike(text: &[u8], a: usize, b: usize, n: usize) -> bool
     requires { (a + n ≤ length text.now) × (b + n ≤ length text.now) }
-    ensures { result ≡ sameOf (take n (drop a (was text))) (take n (drop b (was text))) }
+    ensures { result ≡ same_of (take n (drop a text.now)) (take n (drop b text.now)) }
 {
     same(&text[a..a + n], &text[b..b + n])
 }
@@ -165,7 +164,7 @@ fn alike(text: &[u8], a: usize, b: usize, n: usize) -> bool
 // Whether the n bytes at a place are the text's first ones, eight at a time; of the last eight some are then compared twice.
 fn begins_again(text: &[u8], at: usize, n: usize) -> bool
     requires { at + n ≤ length text.now }
-    ensures { result ≡ sameOf (take n (drop at (was text))) (take n (was text)) }
+    ensures { result ≡ same_of (take n (drop at text.now)) (take n text.now) }
 {
     if n < 8 {
         return alike(text, at, 0, n);
@@ -184,7 +183,7 @@ fn begins_again(text: &[u8], at: usize, n: usize) -> bool
 // The line of segment i at a place, where it begins as the text does: with the same bytes up to the index.
 pub(crate) fn segment_at(text: &[u8], at: usize, front: usize, i: u64) -> Segment
     requires { (at ≤ length text.now) × (front ≤ length text.now) }
-    ensures { SegmentIs (was text) at front i result }
+    ensures { SegmentIs text.now at front i result }
 {
     if text.len() - at < front {
         return Segment::NoSegment;

@@ -1,6 +1,5 @@
 // One line of a list, written at a place.
 ghost use Rattle.std.specs.Prelude.{◌≡◌, [], ◌∷◌, ◌++◌, ◌+◌, ◌≤◌, ◌<◌, length};
-ghost use Rattle.norx.specs.Lent.{was};
 ghost use Rattle.decimal.specs.Decimal.{num_text};
 ghost use Rattle.decimal.specs.Laid.{laid};
 ghost use Rattle.fields.specs.Fields.{newline};
@@ -27,7 +26,7 @@ pub(crate) fn plain_length(job: u64, revision: u64) -> usize
 fn part(n: u64, stop: u8, out: &mut [u8], at: usize) -> usize
     requires { at + length (num_text n) < length out.old }
     ensures place { result ≡ at + length (num_text n ++ (stop ∷ [])) }
-    ensures text { out.new ≡ laid (was out) at (num_text n ++ (stop ∷ [])) }
+    ensures text { out.new ≡ laid out.old at (num_text n ++ (stop ∷ [])) }
 {
     let end = put_number(n, &mut *out, at);
     out[end] = stop;
@@ -37,10 +36,10 @@ fn part(n: u64, stop: u8, out: &mut [u8], at: usize) -> usize
 // Writes a text at a place, and gives the place behind it.
 fn text(x: &[u8], out: &mut [u8], at: usize) -> usize
     requires { at + length x.now ≤ length out.old }
-    ensures place { result ≡ at + length (was x) }
-    ensures text { out.new ≡ laid (was out) at (was x) }
+    ensures place { result ≡ at + length x.now }
+    ensures text { out.new ≡ laid out.old at x.now }
 {
-    bytes::copy(x, &mut out[at..]);
+    texts::copy(x, &mut out[at..]);
     at + x.len()
 }
 
@@ -48,7 +47,7 @@ fn text(x: &[u8], out: &mut [u8], at: usize) -> usize
 fn ending(body: u64, out: &mut [u8], at: usize) -> usize
     requires { at + length (num_text body) < length out.old }
     ensures place { result ≡ at + length (num_text body ++ (newline ∷ [])) }
-    ensures text { out.new ≡ laid (was out) at (num_text body ++ (newline ∷ [])) }
+    ensures text { out.new ≡ laid out.old at (num_text body ++ (newline ∷ [])) }
 {
     if body == SEGMENT as u64 {
         let full = *b"65536\n";
@@ -61,7 +60,7 @@ fn ending(body: u64, out: &mut [u8], at: usize) -> usize
 pub(crate) fn front(job: u64, revision: u64, out: &mut [u8]) -> usize
     requires { 42 ≤ length out.old }
     ensures length { result ≡ length (front_text job revision) }
-    ensures text { out.new ≡ laid (was out) 0 (front_text job revision) }
+    ensures text { out.new ≡ laid out.old 0 (front_text job revision) }
 {
     let a = part(job, b'\t', &mut *out, 0);
     part(revision, b'\t', out, a)
@@ -70,8 +69,8 @@ pub(crate) fn front(job: u64, revision: u64, out: &mut [u8]) -> usize
 // Writes a line with a front at a place, and gives the place behind it.
 pub(crate) fn line(front: &[u8], index: u64, body: u64, out: &mut [u8], at: usize) -> usize
     requires { at + length (front.now ++ rest_text index body) ≤ length out.old }
-    ensures place { result ≡ at + length (was front ++ rest_text index body) }
-    ensures text { out.new ≡ laid (was out) at (was front ++ rest_text index body) }
+    ensures place { result ≡ at + length (front.now ++ rest_text index body) }
+    ensures text { out.new ≡ laid out.old at (front.now ++ rest_text index body) }
 {
     let a = text(front, &mut *out, at);
     let b = part(index, b'\t', &mut *out, a);

@@ -4,6 +4,5 @@ pub mod Stream
 pub mod Blocks
 pub mod Turns
 pub mod Rows
-pub mod Lent
 pub mod Texts
 pub mod Runs

@@ -1,4 +1,5 @@
 // A body through a session in pieces beside one call on the same bytes: what each gives or, where the word `measure` asks for it, how long each takes.
+#![tactic(auto)]
 ghost use Rattle.std.specs.Prelude.{◌≤◌, length};
 
 mod compare;

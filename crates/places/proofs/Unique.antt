@@ -5,36 +5,36 @@ use denote.Triple.Clauses.{AtExit}
 use contract.Lifetimes.{Lfts}
 use borrow.Fn.World.{ArgsD, ResD}
 use borrow.Fn.Kinds.{ended_of}
-use Rattle.places.specs.contracts.closed_place.{signature-closed-place}
+use Rattle.places.specs.contracts.closed_place.{signature as signature-closed-place}
 use Rattle.places.proofs.closed_place.Kinds as kinds-closed-place
-use Rattle.places.proofs.closed_place.Reads.{Post-closed-place}
-use Rattle.places.specs.contracts.fresh_place.{signature-fresh-place}
+use Rattle.places.proofs.closed_place.Reads.{Post as Post-closed-place}
+use Rattle.places.specs.contracts.fresh_place.{signature as signature-fresh-place}
 use Rattle.places.proofs.fresh_place.Kinds as kinds-fresh-place
-use Rattle.places.proofs.fresh_place.Reads.{Post-fresh-place}
-use Rattle.places.specs.contracts.rank.{signature-rank}
+use Rattle.places.proofs.fresh_place.Reads.{Post as Post-fresh-place}
+use Rattle.places.specs.contracts.rank.{signature as signature-rank}
 use Rattle.places.proofs.rank.Kinds as kinds-rank
-use Rattle.places.proofs.rank.Reads.{Post-rank}
-use Rattle.places.specs.contracts.ends.{signature-ends}
+use Rattle.places.proofs.rank.Reads.{Post as Post-rank}
+use Rattle.places.specs.contracts.ends.{signature as signature-ends}
 use Rattle.places.proofs.ends.Kinds as kinds-ends
-use Rattle.places.proofs.ends.Reads.{Post-ends}
-use Rattle.places.specs.contracts.exact.{signature-exact}
+use Rattle.places.proofs.ends.Reads.{Post as Post-ends}
+use Rattle.places.specs.contracts.exact.{signature as signature-exact}
 use Rattle.places.proofs.exact.Kinds as kinds-exact
-use Rattle.places.proofs.exact.Reads.{Post-exact}
-use Rattle.places.specs.contracts.start_answer.{signature-start-answer}
+use Rattle.places.proofs.exact.Reads.{Post as Post-exact}
+use Rattle.places.specs.contracts.start_answer.{signature as signature-start-answer}
 use Rattle.places.proofs.start_answer.Kinds as kinds-start-answer
-use Rattle.places.proofs.start_answer.Reads.{Post-start-answer}
-use Rattle.places.specs.contracts.piece_answer.{signature-piece-answer}
+use Rattle.places.proofs.start_answer.Reads.{Post as Post-start-answer}
+use Rattle.places.specs.contracts.piece_answer.{signature as signature-piece-answer}
 use Rattle.places.proofs.piece_answer.Kinds as kinds-piece-answer
-use Rattle.places.proofs.piece_answer.Reads.{Post-piece-answer}
-use Rattle.places.specs.contracts.close_answer.{signature-close-answer}
+use Rattle.places.proofs.piece_answer.Reads.{Post as Post-piece-answer}
+use Rattle.places.specs.contracts.close_answer.{signature as signature-close-answer}
 use Rattle.places.proofs.close_answer.Kinds as kinds-close-answer
-use Rattle.places.proofs.close_answer.Reads.{Post-close-answer}
-use Rattle.places.specs.contracts.after.{signature-after}
+use Rattle.places.proofs.close_answer.Reads.{Post as Post-close-answer}
+use Rattle.places.specs.contracts.after.{signature as signature-after}
 use Rattle.places.proofs.after.Kinds as kinds-after
-use Rattle.places.proofs.after.Reads.{Post-after}
-use Rattle.places.specs.contracts.front.front.{signature-front-front}
+use Rattle.places.proofs.after.Reads.{Post as Post-after}
+use Rattle.places.specs.contracts.front.front.{signature as signature-front-front}
 use Rattle.places.proofs.front.front.Kinds as kinds-front-front
-use Rattle.places.proofs.front.front.Reads.{Post-front-front}
+use Rattle.places.proofs.front.front.Reads.{Post as Post-front-front}
 
 pub one_closed_place : (κs : Lfts 0) (a : ArgsD signature-closed-place κs) (r r' : ResD signature-closed-place κs) (s s' : AtExit (ended_of 0 kinds-closed-place.ps kinds-closed-place.r) κs)
     → Post-closed-place κs a r s → Post-closed-place κs a r' s' → r ≡ r'

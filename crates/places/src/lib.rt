@@ -1,6 +1,7 @@
 // Where a session of any kind and width stands, and what is answered by its numbers.
+#![tactic(auto)]
 ghost use Rattle.std.specs.Prelude.{◌≡◌, ◌+◌, ◌≤◌, leb, cond};
-ghost use Rattle.places.specs.Places.{rank_of, limit_of, present_of, ends_of, count_of, fresh_place, closed_place, moved as movedOf, counts_within, unreached_of, sound_of, start_answer, piece_answer, close_answer, seal_exact};
+ghost use Rattle.places.specs.Places.{rank_of, limit_of, present_of, ends_of, count_of, fresh_place, closed_place, moved as moved_of, counts_within, unreached_of, sound_of, start_answer, piece_answer, close_answer, seal_exact};
 
 use crate::terms::{Edition, Terms, of_edition, terms_ok};
 use answers::{Answer, done, need};
@@ -10,7 +11,7 @@ pub mod front;
 pub mod terms;
 
 // The parts of a job, in their order.
-#[derive(Drop)]
+#[derive(Clone, Copy)]
 pub enum Part {
     Note,
     Body,
@@ -18,7 +19,7 @@ pub enum Part {
 }
 
 // What a piece says of itself.
-#[derive(Drop)]
+#[derive(Clone, Copy)]
 pub struct Label {
     pub edition: Edition,
     pub part: Part,
@@ -26,14 +27,14 @@ pub struct Label {
 }
 
 // Whether a session takes pieces, and which part they have come to.
-#[derive(Drop)]
+#[derive(Clone, Copy)]
 pub enum Standing {
     Closed,
     Open(Part),
 }
 
 // Where a session stands: all of it but its words and its key.
-#[derive(Drop)]
+#[derive(Clone, Copy)]
 pub struct Place {
     pub standing: Standing,
     pub note: usize,
@@ -243,7 +244,7 @@ pub fn close_answer(p: Place, edition: Edition, wanted: usize, tag: usize) -> An
 
 // The place once a piece of n bytes is accepted; as it was where they would pass the limit.
 pub fn after(p: Place, part: Part, n: usize) -> Place
-    ensures { result ≡ cond (leb (count_of p part + n) (limit_of part)) (movedOf p part n) p }
+    ensures { result ≡ cond (leb (count_of p part + n) (limit_of part)) (moved_of p part n) p }
 {
     if fits(count(p, part), n, limit(part)) {
         moved(p, part, n)
@@ -255,7 +256,7 @@ pub fn after(p: Place, part: Part, n: usize) -> Place
 // The place once a piece that fits is accepted.
 fn moved(p: Place, part: Part, n: usize) -> Place
     requires { count_of p part + n ≤ limit_of part }
-    ensures { result ≡ movedOf p part n }
+    ensures { result ≡ moved_of p part n }
 {
     let standing = Standing::Open(part);
     let terms = p.terms;

@@ -6,14 +6,14 @@ use answers::{Answer, need};
 use rules::rounds_ok;
 
 // Which job, and which revision of it, a session, a piece or a close is of.
-#[derive(Drop)]
+#[derive(Clone, Copy)]
 pub struct Edition {
     pub job: u64,
     pub revision: u64,
 }
 
 // What a session is begun for.
-#[derive(Drop)]
+#[derive(Clone, Copy)]
 pub struct Terms {
     pub rounds: u32,
     pub edition: Edition,

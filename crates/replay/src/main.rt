@@ -1,4 +1,5 @@
 // Three days, told call by call: what each call was offered, and what it answered.
+#![tactic(auto)]
 mod customers;
 mod early;
 mod gateway;

@@ -5,30 +5,30 @@ use denote.Triple.Clauses.{AtExit}
 use contract.Lifetimes.{Lfts}
 use borrow.Fn.World.{ArgsD, ResD}
 use borrow.Fn.Kinds.{ended_of}
-use Rattle.rules.specs.contracts.rounds_ok.{signature-rounds-ok}
+use Rattle.rules.specs.contracts.rounds_ok.{signature as signature-rounds-ok}
 use Rattle.rules.proofs.rounds_ok.Kinds as kinds-rounds-ok
-use Rattle.rules.proofs.rounds_ok.Reads.{Post-rounds-ok}
-use Rattle.rules.specs.contracts.lengths_ok.{signature-lengths-ok}
+use Rattle.rules.proofs.rounds_ok.Reads.{Post as Post-rounds-ok}
+use Rattle.rules.specs.contracts.lengths_ok.{signature as signature-lengths-ok}
 use Rattle.rules.proofs.lengths_ok.Kinds as kinds-lengths-ok
-use Rattle.rules.proofs.lengths_ok.Reads.{Post-lengths-ok}
-use Rattle.rules.specs.contracts.calls.seal_checks.{signature-seal-checks}
+use Rattle.rules.proofs.lengths_ok.Reads.{Post as Post-lengths-ok}
+use Rattle.rules.specs.contracts.calls.seal_checks.{signature as signature-seal-checks}
 use Rattle.rules.proofs.calls.seal_checks.Kinds as kinds-seal-checks
-use Rattle.rules.proofs.calls.seal_checks.Reads.{Post-seal-checks}
-use Rattle.rules.specs.contracts.calls.open_checks.{signature-open-checks}
+use Rattle.rules.proofs.calls.seal_checks.Reads.{Post as Post-seal-checks}
+use Rattle.rules.specs.contracts.calls.open_checks.{signature as signature-open-checks}
 use Rattle.rules.proofs.calls.open_checks.Kinds as kinds-open-checks
-use Rattle.rules.proofs.calls.open_checks.Reads.{Post-open-checks}
-use Rattle.rules.specs.contracts.w32.rounds_of.{signature-w32-rounds-of}
+use Rattle.rules.proofs.calls.open_checks.Reads.{Post as Post-open-checks}
+use Rattle.rules.specs.contracts.w32.rounds_of.{signature as signature-w32-rounds-of}
 use Rattle.rules.proofs.w32.rounds_of.Kinds as kinds-w32-rounds-of
-use Rattle.rules.proofs.w32.rounds_of.Reads.{Post-w32-rounds-of}
-use Rattle.rules.specs.contracts.w32.runs.{signature-w32-runs}
+use Rattle.rules.proofs.w32.rounds_of.Reads.{Post as Post-w32-rounds-of}
+use Rattle.rules.specs.contracts.w32.runs.{signature as signature-w32-runs}
 use Rattle.rules.proofs.w32.runs.Kinds as kinds-w32-runs
-use Rattle.rules.proofs.w32.runs.Reads.{Post-w32-runs}
-use Rattle.rules.specs.contracts.w64.rounds_of.{signature-w64-rounds-of}
+use Rattle.rules.proofs.w32.runs.Reads.{Post as Post-w32-runs}
+use Rattle.rules.specs.contracts.w64.rounds_of.{signature as signature-w64-rounds-of}
 use Rattle.rules.proofs.w64.rounds_of.Kinds as kinds-w64-rounds-of
-use Rattle.rules.proofs.w64.rounds_of.Reads.{Post-w64-rounds-of}
-use Rattle.rules.specs.contracts.w64.runs.{signature-w64-runs}
+use Rattle.rules.proofs.w64.rounds_of.Reads.{Post as Post-w64-rounds-of}
+use Rattle.rules.specs.contracts.w64.runs.{signature as signature-w64-runs}
 use Rattle.rules.proofs.w64.runs.Kinds as kinds-w64-runs
-use Rattle.rules.proofs.w64.runs.Reads.{Post-w64-runs}
+use Rattle.rules.proofs.w64.runs.Reads.{Post as Post-w64-runs}
 
 pub one_rounds_ok : (κs : Lfts 0) (a : ArgsD signature-rounds-ok κs) (r r' : ResD signature-rounds-ok κs) (s s' : AtExit (ended_of 0 kinds-rounds-ok.ps kinds-rounds-ok.r) κs)
     → Post-rounds-ok κs a r s → Post-rounds-ok κs a r' s' → r ≡ r'

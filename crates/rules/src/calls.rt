@@ -1,6 +1,6 @@
 // The answers that the numbers of one call decide, in their order. Every number but the rounds is a length in bytes.
 ghost use Rattle.std.specs.Prelude.{◌≡◌, ◌+◌, ◌-◌, eqb};
-ghost use Rattle.rules.specs.Rules.{within as withinOf};
+ghost use Rattle.rules.specs.Rules.{within as within_of};
 ghost use Rattle.rules.specs.Calls.{seal_checks, open_checks};
 
 use super::{LONGEST_BODY, LONGEST_HEADER, LONGEST_TRAILER, lengths_ok, rounds_ok};
@@ -8,7 +8,7 @@ use answers::{Answer, need};
 
 // Whether no part passes its limit.
 pub(crate) fn within(header: usize, body: usize, trailer: usize) -> bool
-    ensures { result ≡ withinOf header body trailer }
+    ensures { result ≡ within_of header body trailer }
 {
     (header <= LONGEST_HEADER) & (body <= LONGEST_BODY) & (trailer <= LONGEST_TRAILER)
 }

@@ -1,7 +1,7 @@
 // How many times P runs in one call, by the lengths of its parts.
 ghost use Rattle.std.specs.Prelude.{◌≡◌, cond, ◌+◌, ◌<◌, ◌≤◌};
 ghost use Rattle.norx.specs.Runs.{part_runs, runs_by};
-ghost use Rattle.rules.specs.Rules.{longest_body, within as withinOf};
+ghost use Rattle.rules.specs.Rules.{longest_body, within as within_of};
 
 use super::calls::within;
 
@@ -20,7 +20,7 @@ fn part_runs(rate: usize, n: usize) -> u32
 // In a whole call; 0 where a part is over its limit.
 pub(crate) fn runs_at(rate: usize, header: usize, body: usize, trailer: usize) -> u32
     requires { 0 < rate }
-    ensures { result ≡ cond (withinOf header body trailer) (runs_by rate header body trailer) 0 }
+    ensures { result ≡ cond (within_of header body trailer) (runs_by rate header body trailer) 0 }
 {
     if !within(header, body, trailer) {
         return 0;

@@ -6,36 +6,36 @@ use contract.Lifetimes.{Lfts}
 use borrow.Fn.World.{ArgsD, ResD}
 use borrow.Fn.Kinds.{ended_of}
 use Rattle.answers.proofs.Runs.{one_outcome}
-use Rattle.sealing.specs.contracts.seal.{signature-seal}
+use Rattle.sealing.specs.contracts.seal.{signature as signature-seal}
 use Rattle.sealing.proofs.seal.Kinds as kinds-seal
-use Rattle.sealing.proofs.seal.Reads.{Post-seal}
-use Rattle.sealing.specs.contracts.open.{signature-open}
+use Rattle.sealing.proofs.seal.Reads.{Post as Post-seal}
+use Rattle.sealing.specs.contracts.open.{signature as signature-open}
 use Rattle.sealing.proofs.open.Kinds as kinds-open
-use Rattle.sealing.proofs.open.Reads.{Post-open}
-use Rattle.sealing.specs.contracts.w32.seal.{signature-w32-seal}
+use Rattle.sealing.proofs.open.Reads.{Post as Post-open}
+use Rattle.sealing.specs.contracts.w32.seal.{signature as signature-w32-seal}
 use Rattle.sealing.proofs.w32.seal.Kinds as kinds-w32-seal
-use Rattle.sealing.proofs.w32.seal.Reads.{Post-w32-seal}
-use Rattle.sealing.specs.contracts.w32.open.{signature-w32-open}
+use Rattle.sealing.proofs.w32.seal.Reads.{Post as Post-w32-seal}
+use Rattle.sealing.specs.contracts.w32.open.{signature as signature-w32-open}
 use Rattle.sealing.proofs.w32.open.Kinds as kinds-w32-open
-use Rattle.sealing.proofs.w32.open.Reads.{Post-w32-open}
-use Rattle.sealing.specs.contracts.w64.seal.{signature-w64-seal}
+use Rattle.sealing.proofs.w32.open.Reads.{Post as Post-w32-open}
+use Rattle.sealing.specs.contracts.w64.seal.{signature as signature-w64-seal}
 use Rattle.sealing.proofs.w64.seal.Kinds as kinds-w64-seal
-use Rattle.sealing.proofs.w64.seal.Reads.{Post-w64-seal}
-use Rattle.sealing.specs.contracts.w64.open.{signature-w64-open}
+use Rattle.sealing.proofs.w64.seal.Reads.{Post as Post-w64-seal}
+use Rattle.sealing.specs.contracts.w64.open.{signature as signature-w64-open}
 use Rattle.sealing.proofs.w64.open.Kinds as kinds-w64-open
-use Rattle.sealing.proofs.w64.open.Reads.{Post-w64-open}
-use Rattle.sealing.specs.contracts.body32.seal.{signature-body32-seal}
+use Rattle.sealing.proofs.w64.open.Reads.{Post as Post-w64-open}
+use Rattle.sealing.specs.contracts.body32.seal.{signature as signature-body32-seal}
 use Rattle.sealing.proofs.body32.seal.Kinds as kinds-body32-seal
-use Rattle.sealing.proofs.body32.seal.Reads.{Post-body32-seal}
-use Rattle.sealing.specs.contracts.body32.open.{signature-body32-open}
+use Rattle.sealing.proofs.body32.seal.Reads.{Post as Post-body32-seal}
+use Rattle.sealing.specs.contracts.body32.open.{signature as signature-body32-open}
 use Rattle.sealing.proofs.body32.open.Kinds as kinds-body32-open
-use Rattle.sealing.proofs.body32.open.Reads.{Post-body32-open}
-use Rattle.sealing.specs.contracts.body64.seal.{signature-body64-seal}
+use Rattle.sealing.proofs.body32.open.Reads.{Post as Post-body32-open}
+use Rattle.sealing.specs.contracts.body64.seal.{signature as signature-body64-seal}
 use Rattle.sealing.proofs.body64.seal.Kinds as kinds-body64-seal
-use Rattle.sealing.proofs.body64.seal.Reads.{Post-body64-seal}
-use Rattle.sealing.specs.contracts.body64.open.{signature-body64-open}
+use Rattle.sealing.proofs.body64.seal.Reads.{Post as Post-body64-seal}
+use Rattle.sealing.specs.contracts.body64.open.{signature as signature-body64-open}
 use Rattle.sealing.proofs.body64.open.Kinds as kinds-body64-open
-use Rattle.sealing.proofs.body64.open.Reads.{Post-body64-open}
+use Rattle.sealing.proofs.body64.open.Reads.{Post as Post-body64-open}
 
 pub one_seal : (κs : Lfts 6) (a : ArgsD signature-seal κs) (r r' : ResD signature-seal κs) (s s' : AtExit (ended_of 6 kinds-seal.ps kinds-seal.r) κs)
     → Post-seal κs a r s → Post-seal κs a r' s' → (r ≡ r') × (s.1.1.1.1.1.1.1.0.now ≡ s'.1.1.1.1.1.1.1.0.now)

@@ -1,8 +1,7 @@
 // A body sealed and a text opened at 32-bit words, from the state where the body begins.
 // Where the trailer is empty the state goes on to the tag from where it is: what absorb gives back would be a copy.
 ghost use Rattle.std.specs.Prelude.{◌≡◌, cond, ◌+◌, eqb, length, replicate};
-ghost use Rattle.norx.specs.Lent.{was};
-ghost use Rattle.norx.specs.Norx.{word32, tag_bits, same as sameOf};
+ghost use Rattle.norx.specs.Norx.{word32, tag_bits, same as same_of};
 ghost use Rattle.answers.specs.declared.Answer.TheVariants.{Done, OutputLength, TagDiffers};
 ghost use Rattle.rules.specs.Rules.{rounds_of, tag_bytes};
 ghost use Rattle.rules.specs.Calls.{answer_of, out_of};
@@ -17,25 +16,25 @@ use texts::{clear, same};
 
 // Seals a body: ciphertext and tag are written; nothing where the output is not as long as both.
 pub fn seal(s: State, rounds: u32, key: Row, body: &[u8], trailer: &[u8], out: &mut [u8])
-    ensures { out.new ≡ cond (eqb (length (was out)) (length (was body) + tag_bytes word32)) (sealed_from word32 (rounds_of word32 rounds) (tag_bits word32) key s (was body) (was trailer)) (was out) }
+    ensures { out.new ≡ cond (eqb (length out.old) (length body.now + tag_bytes word32)) (sealed_from word32 (rounds_of word32 rounds) (tag_bits word32) key s body.now trailer.now) out.old }
 {
     let n = body.len();
     if out.len() == n + TAG {
         let t = encrypt(s, rounds, body, &mut out[0..n]);
         if trailer.len() == 0 {
             let own = tag(rounds, key, t);
-            bytes::copy(&own, &mut out[n..]);
+            texts::copy(&own, &mut out[n..]);
         } else {
             let own = tag(rounds, key, absorb(t, rounds, TRAILER_MARK, trailer));
-            bytes::copy(&own, &mut out[n..]);
+            texts::copy(&own, &mut out[n..]);
         }
     }
 }
 
 // What an opening answers by the tag that came and its own; where they differ, the output is cleared.
 fn judged(theirs: &[u8], own: [u8; TAG], out: &mut [u8]) -> Answer
-    ensures answer { result ≡ cond (sameOf (was theirs) own) Done TagDiffers }
-    ensures output { out.new ≡ cond (sameOf (was theirs) own) (was out) (replicate (length (was out)) 0) }
+    ensures answer { result ≡ cond (same_of theirs.now own) Done TagDiffers }
+    ensures output { out.new ≡ cond (same_of theirs.now own) out.old (replicate (length out.old) 0) }
 {
     if same(theirs, &own) {
         return Answer::Done;
@@ -53,8 +52,8 @@ pub fn open(
     trailer: &[u8],
     out: &mut [u8],
 ) -> Answer
-    ensures answer { result ≡ cond (eqb (length (was sealed)) (length (was out) + tag_bytes word32)) (answer_of (opened_from word32 (rounds_of word32 rounds) (tag_bits word32) key s (was sealed) (was trailer))) OutputLength }
-    ensures output { out.new ≡ cond (eqb (length (was sealed)) (length (was out) + tag_bytes word32)) (out_of (opened_from word32 (rounds_of word32 rounds) (tag_bits word32) key s (was sealed) (was trailer)) (length (was out))) (was out) }
+    ensures answer { result ≡ cond (eqb (length sealed.now) (length out.old + tag_bytes word32)) (answer_of (opened_from word32 (rounds_of word32 rounds) (tag_bits word32) key s sealed.now trailer.now)) OutputLength }
+    ensures output { out.new ≡ cond (eqb (length sealed.now) (length out.old + tag_bytes word32)) (out_of (opened_from word32 (rounds_of word32 rounds) (tag_bits word32) key s sealed.now trailer.now) (length out.old)) out.old }
 {
     let n = out.len();
     if sealed.len() != n + TAG {

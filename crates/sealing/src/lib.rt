@@ -1,6 +1,6 @@
 // Sealing and opening in one call: at each width under the same names, and at a width that is given as a number.
+#![tactic(auto)]
 ghost use Rattle.std.specs.Prelude.{◌≡◌};
-ghost use Rattle.norx.specs.Lent.{was};
 ghost use Rattle.answers.specs.Answers.{number_of};
 ghost use Rattle.sealing.specs.Widths.{seal_answer_at, seal_runs_at, seal_out_at, open_answer_at, open_runs_at, open_out_at};
 ghost use Rattle.sealing.specs.Promises.{SealsAt, OpensAt};
@@ -23,10 +23,10 @@ pub fn seal(
     trailer: &[u8],
     out: &mut [u8],
 ) -> Outcome
-    ensures answer { result.answer ≡ seal_answer_at width rounds (was key) (was nonce) (was header) (was body) (was trailer) (was out) }
-    ensures runs { result.runs ≡ seal_runs_at width rounds (was key) (was nonce) (was header) (was body) (was trailer) (was out) }
-    ensures output { out.new ≡ seal_out_at width rounds (was key) (was nonce) (was header) (was body) (was trailer) (was out) }
-    ensures promise { SealsAt width rounds (was key) (was nonce) (was header) (was body) (was trailer) (was out) (number_of result.answer) result.runs out.new }
+    ensures answer { result.answer ≡ seal_answer_at width rounds key.now nonce.now header.now body.now trailer.now out.old }
+    ensures runs { result.runs ≡ seal_runs_at width rounds key.now nonce.now header.now body.now trailer.now out.old }
+    ensures output { out.new ≡ seal_out_at width rounds key.now nonce.now header.now body.now trailer.now out.old }
+    ensures promise { SealsAt width rounds key.now nonce.now header.now body.now trailer.now out.old (number_of result.answer) result.runs out.new }
 {
     if width == 32 {
         return w32::seal(rounds, key, nonce, header, body, trailer, out);
@@ -51,10 +51,10 @@ pub fn open(
     trailer: &[u8],
     out: &mut [u8],
 ) -> Outcome
-    ensures answer { result.answer ≡ open_answer_at width rounds (was key) (was nonce) (was header) (was sealed) (was trailer) (was out) }
-    ensures runs { result.runs ≡ open_runs_at width rounds (was key) (was nonce) (was header) (was sealed) (was trailer) (was out) }
-    ensures output { out.new ≡ open_out_at width rounds (was key) (was nonce) (was header) (was sealed) (was trailer) (was out) }
-    ensures promise { OpensAt width rounds (was key) (was nonce) (was header) (was sealed) (was trailer) (was out) (number_of result.answer) result.runs out.new }
+    ensures answer { result.answer ≡ open_answer_at width rounds key.now nonce.now header.now sealed.now trailer.now out.old }
+    ensures runs { result.runs ≡ open_runs_at width rounds key.now nonce.now header.now sealed.now trailer.now out.old }
+    ensures output { out.new ≡ open_out_at width rounds key.now nonce.now header.now sealed.now trailer.now out.old }
+    ensures promise { OpensAt width rounds key.now nonce.now header.now sealed.now trailer.now out.old (number_of result.answer) result.runs out.new }
 {
     if width == 32 {
         return w32::open(rounds, key, nonce, header, sealed, trailer, out);

@@ -1,7 +1,6 @@
 // Sealing and opening in one call at 64-bit words.
 ghost use Rattle.std.specs.Prelude.{◌≡◌, length};
-ghost use Rattle.norx.specs.Lent.{was};
-ghost use Rattle.norx.specs.Norx.{word64, row_bytes, tag_bits, header_mark, after_part, start as norxStart, sealed as sealedOf};
+ghost use Rattle.norx.specs.Norx.{word64, row_bytes, tag_bits, header_mark, after_part, start as norx_start, sealed as sealed_of};
 ghost use Rattle.answers.specs.Answers.{number_of};
 ghost use Rattle.rules.specs.Rules.{rounds_of, tag_bytes};
 ghost use Rattle.rules.specs.Calls.{Exact};
@@ -19,7 +18,7 @@ use sponge64::parts::absorb;
 
 // The state where the body begins.
 fn before_body(rounds: u32, key: Row, nonce: Row, header: &[u8]) -> State
-    ensures { result ≡ after_part word64 (rounds_of word64 rounds) header_mark (norxStart word64 (rounds_of word64 rounds) (tag_bits word64) key nonce) (was header) }
+    ensures { result ≡ after_part word64 (rounds_of word64 rounds) header_mark (norx_start word64 (rounds_of word64 rounds) (tag_bits word64) key nonce) header.now }
 {
     absorb(start(rounds, key, nonce), rounds, HEADER_MARK, header)
 }
@@ -35,7 +34,7 @@ fn seal_checked(
     out: &mut [u8],
 )
     requires { Exact (row_bytes word64) (tag_bytes word64) (length key.now) (length nonce.now) (length body.now) (length out.old) }
-    ensures { out.new ≡ sealedOf word64 (rounds_of word64 rounds) (tag_bits word64) (was key) (was nonce) (was header) (was body) (was trailer) }
+    ensures { out.new ≡ sealed_of word64 (rounds_of word64 rounds) (tag_bits word64) key.now nonce.now header.now body.now trailer.now }
 {
     let k = row(key);
     let s = before_body(rounds, k, row(nonce), header);
@@ -52,10 +51,10 @@ pub fn seal(
     trailer: &[u8],
     out: &mut [u8],
 ) -> Outcome
-    ensures answer { result.answer ≡ seal_answer word64 rounds (was key) (was nonce) (was header) (was body) (was trailer) (was out) }
-    ensures runs { result.runs ≡ seal_runs word64 rounds (was key) (was nonce) (was header) (was body) (was trailer) (was out) }
-    ensures output { out.new ≡ seal_out word64 rounds (was key) (was nonce) (was header) (was body) (was trailer) (was out) }
-    ensures promise { Seals word64 rounds (was key) (was nonce) (was header) (was body) (was trailer) (was out) (number_of result.answer) result.runs out.new }
+    ensures answer { result.answer ≡ seal_answer word64 rounds key.now nonce.now header.now body.now trailer.now out.old }
+    ensures runs { result.runs ≡ seal_runs word64 rounds key.now nonce.now header.now body.now trailer.now out.old }
+    ensures output { out.new ≡ seal_out word64 rounds key.now nonce.now header.now body.now trailer.now out.old }
+    ensures promise { Seals word64 rounds key.now nonce.now header.now body.now trailer.now out.old (number_of result.answer) result.runs out.new }
 {
     let n = runs(header.len(), body.len(), trailer.len());
     let answer = seal_checks(
@@ -87,8 +86,8 @@ fn open_checked(
     out: &mut [u8],
 ) -> Answer
     requires { Exact (row_bytes word64) (tag_bytes word64) (length key.now) (length nonce.now) (length out.old) (length sealed.now) }
-    ensures answer { result ≡ tag_answer word64 (rounds_of word64 rounds) (was key) (was nonce) (was header) (was sealed) (was trailer) (was out) }
-    ensures output { out.new ≡ tag_out word64 (rounds_of word64 rounds) (was key) (was nonce) (was header) (was sealed) (was trailer) (was out) }
+    ensures answer { result ≡ tag_answer word64 (rounds_of word64 rounds) key.now nonce.now header.now sealed.now trailer.now out.old }
+    ensures output { out.new ≡ tag_out word64 (rounds_of word64 rounds) key.now nonce.now header.now sealed.now trailer.now out.old }
 {
     let k = row(key);
     let s = before_body(rounds, k, row(nonce), header);
@@ -105,10 +104,10 @@ pub fn open(
     trailer: &[u8],
     out: &mut [u8],
 ) -> Outcome
-    ensures answer { result.answer ≡ open_answer word64 rounds (was key) (was nonce) (was header) (was sealed) (was trailer) (was out) }
-    ensures runs { result.runs ≡ open_runs word64 rounds (was key) (was nonce) (was header) (was sealed) (was trailer) (was out) }
-    ensures output { out.new ≡ open_out word64 rounds (was key) (was nonce) (was header) (was sealed) (was trailer) (was out) }
-    ensures promise { Opens word64 rounds (was key) (was nonce) (was header) (was sealed) (was trailer) (was out) (number_of result.answer) result.runs out.new }
+    ensures answer { result.answer ≡ open_answer word64 rounds key.now nonce.now header.now sealed.now trailer.now out.old }
+    ensures runs { result.runs ≡ open_runs word64 rounds key.now nonce.now header.now sealed.now trailer.now out.old }
+    ensures output { out.new ≡ open_out word64 rounds key.now nonce.now header.now sealed.now trailer.now out.old }
+    ensures promise { Opens word64 rounds key.now nonce.now header.now sealed.now trailer.now out.old (number_of result.answer) result.runs out.new }
 {
     let n = runs(header.len(), out.len(), trailer.len());
     let checked = open_checks(

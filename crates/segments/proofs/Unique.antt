@@ -6,42 +6,42 @@ use contract.Lifetimes.{Lfts}
 use borrow.Fn.World.{ArgsD, ResD}
 use borrow.Fn.Kinds.{ended_of}
 use Rattle.answers.proofs.Runs.{one_outcome}
-use Rattle.segments.specs.contracts.seal.{signature-seal}
+use Rattle.segments.specs.contracts.seal.{signature as signature-seal}
 use Rattle.segments.proofs.seal.Kinds as kinds-seal
-use Rattle.segments.proofs.seal.Reads.{Post-seal}
-use Rattle.segments.specs.contracts.open.{signature-open}
+use Rattle.segments.proofs.seal.Reads.{Post as Post-seal}
+use Rattle.segments.specs.contracts.open.{signature as signature-open}
 use Rattle.segments.proofs.open.Kinds as kinds-open
-use Rattle.segments.proofs.open.Reads.{Post-open}
-use Rattle.segments.specs.contracts.w32.seal.{signature-seal-32}
+use Rattle.segments.proofs.open.Reads.{Post as Post-open}
+use Rattle.segments.specs.contracts.w32.seal.{signature as signature-seal-32}
 use Rattle.segments.proofs.w32.seal.Kinds as kinds-seal-32
-use Rattle.segments.proofs.w32.seal.Reads.{Post-seal-32}
-use Rattle.segments.specs.contracts.w32.open.{signature-open-32}
+use Rattle.segments.proofs.w32.seal.Reads.{Post as Post-seal-32}
+use Rattle.segments.specs.contracts.w32.open.{signature as signature-open-32}
 use Rattle.segments.proofs.w32.open.Kinds as kinds-open-32
-use Rattle.segments.proofs.w32.open.Reads.{Post-open-32}
-use Rattle.segments.specs.contracts.receiver32.Receiver.start.{signature-receiver-start-32}
+use Rattle.segments.proofs.w32.open.Reads.{Post as Post-open-32}
+use Rattle.segments.specs.contracts.receiver32.Receiver.start.{signature as signature-receiver-start-32}
 use Rattle.segments.proofs.receiver32.Receiver.start.Kinds as kinds-receiver-start-32
-use Rattle.segments.proofs.receiver32.Receiver.start.Reads.{Post-receiver-start-32}
-use Rattle.segments.specs.contracts.receiver32.Receiver.take.{signature-receiver-take-32}
+use Rattle.segments.proofs.receiver32.Receiver.start.Reads.{Post as Post-receiver-start-32}
+use Rattle.segments.specs.contracts.receiver32.Receiver.take.{signature as signature-receiver-take-32}
 use Rattle.segments.proofs.receiver32.Receiver.take.Kinds as kinds-receiver-take-32
-use Rattle.segments.proofs.receiver32.Receiver.take.Reads.{Post-receiver-take-32}
-use Rattle.segments.specs.contracts.receiver32.Receiver.none.{signature-receiver-none-32}
+use Rattle.segments.proofs.receiver32.Receiver.take.Reads.{Post as Post-receiver-take-32}
+use Rattle.segments.specs.contracts.receiver32.Receiver.none.{signature as signature-receiver-none-32}
 use Rattle.segments.proofs.receiver32.Receiver.none.Kinds as kinds-receiver-none-32
-use Rattle.segments.proofs.receiver32.Receiver.none.Reads.{Post-receiver-none-32}
-use Rattle.segments.specs.contracts.w64.seal.{signature-seal-64}
+use Rattle.segments.proofs.receiver32.Receiver.none.Reads.{Post as Post-receiver-none-32}
+use Rattle.segments.specs.contracts.w64.seal.{signature as signature-seal-64}
 use Rattle.segments.proofs.w64.seal.Kinds as kinds-seal-64
-use Rattle.segments.proofs.w64.seal.Reads.{Post-seal-64}
-use Rattle.segments.specs.contracts.w64.open.{signature-open-64}
+use Rattle.segments.proofs.w64.seal.Reads.{Post as Post-seal-64}
+use Rattle.segments.specs.contracts.w64.open.{signature as signature-open-64}
 use Rattle.segments.proofs.w64.open.Kinds as kinds-open-64
-use Rattle.segments.proofs.w64.open.Reads.{Post-open-64}
-use Rattle.segments.specs.contracts.receiver64.Receiver.start.{signature-receiver-start-64}
+use Rattle.segments.proofs.w64.open.Reads.{Post as Post-open-64}
+use Rattle.segments.specs.contracts.receiver64.Receiver.start.{signature as signature-receiver-start-64}
 use Rattle.segments.proofs.receiver64.Receiver.start.Kinds as kinds-receiver-start-64
-use Rattle.segments.proofs.receiver64.Receiver.start.Reads.{Post-receiver-start-64}
-use Rattle.segments.specs.contracts.receiver64.Receiver.take.{signature-receiver-take-64}
+use Rattle.segments.proofs.receiver64.Receiver.start.Reads.{Post as Post-receiver-start-64}
+use Rattle.segments.specs.contracts.receiver64.Receiver.take.{signature as signature-receiver-take-64}
 use Rattle.segments.proofs.receiver64.Receiver.take.Kinds as kinds-receiver-take-64
-use Rattle.segments.proofs.receiver64.Receiver.take.Reads.{Post-receiver-take-64}
-use Rattle.segments.specs.contracts.receiver64.Receiver.none.{signature-receiver-none-64}
+use Rattle.segments.proofs.receiver64.Receiver.take.Reads.{Post as Post-receiver-take-64}
+use Rattle.segments.specs.contracts.receiver64.Receiver.none.{signature as signature-receiver-none-64}
 use Rattle.segments.proofs.receiver64.Receiver.none.Kinds as kinds-receiver-none-64
-use Rattle.segments.proofs.receiver64.Receiver.none.Reads.{Post-receiver-none-64}
+use Rattle.segments.proofs.receiver64.Receiver.none.Reads.{Post as Post-receiver-none-64}
 
 pub one_seal : (κs : Lfts 5) (a : ArgsD signature-seal κs) (r r' : ResD signature-seal κs) (s s' : AtExit (ended_of 5 kinds-seal.ps kinds-seal.r) κs)
     → Post-seal κs a r s → Post-seal κs a r' s' → (r ≡ r') × (s.1.1.1.1.1.1.1.1.0.now ≡ s'.1.1.1.1.1.1.1.1.0.now)

@@ -1,6 +1,6 @@
 // Segments of a job, each sealed by itself: sealed and opened at each width, and at a width that is given as a number; and receivers, which take them in order.
+#![tactic(auto)]
 ghost use Rattle.std.specs.Prelude.{◌≡◌, ◌++◌, ◌+◌, ◌<◌, length};
-ghost use Rattle.norx.specs.Lent.{was};
 ghost use Rattle.answers.specs.Answers.{number_of};
 ghost use Rattle.rules.specs.Rules.{most_segments};
 ghost use Rattle.cutting.specs.Cutting.{waiting_next};
@@ -21,8 +21,8 @@ pub(crate) fn join(first: &[u8], second: &[u8], out: &mut [u8])
     ensures { out.new ≡ was first ++ was second }
 {
     let n = first.len();
-    bytes::copy(first, &mut out[0..n]);
-    bytes::copy(second, &mut out[n..]);
+    texts::copy(first, &mut out[0..n]);
+    texts::copy(second, &mut out[n..]);
 }
 
 // Where a receiver waits after an answer: for the next segment where that is 0, and complete where the one before it was the last.
@@ -53,9 +53,9 @@ pub fn seal(
     body: &[u8],
     out: &mut [u8],
 ) -> Outcome
-    ensures answer { result.answer ≡ segment_answer_at width (was key) (was nonce) terms (was note) index last (was body) (was out) }
-    ensures runs { result.runs ≡ segment_runs_at width (was key) (was nonce) terms (was note) index last (was body) (was out) }
-    ensures output { out.new ≡ segment_out_at width (was key) (was nonce) terms (was note) index last (was body) (was out) }
+    ensures answer { result.answer ≡ segment_answer_at width key.now nonce.now terms note.now index last body.now out.old }
+    ensures runs { result.runs ≡ segment_runs_at width key.now nonce.now terms note.now index last body.now out.old }
+    ensures output { out.new ≡ segment_out_at width key.now nonce.now terms note.now index last body.now out.old }
 {
     if width == 32 {
         return w32::seal(key, nonce, terms, note, index, last, body, out);
@@ -81,9 +81,9 @@ pub fn open(
     sealed: &[u8],
     out: &mut [u8],
 ) -> Outcome
-    ensures answer { result.answer ≡ take_answer_at width (was key) (was nonce) terms (was note) waiting last (was sealed) (was out) }
-    ensures runs { result.runs ≡ take_runs_at width (was key) (was nonce) terms (was note) waiting last (was sealed) (was out) }
-    ensures output { out.new ≡ take_out_at width (was key) (was nonce) terms (was note) waiting last (was sealed) (was out) }
+    ensures answer { result.answer ≡ take_answer_at width key.now nonce.now terms note.now waiting last sealed.now out.old }
+    ensures runs { result.runs ≡ take_runs_at width key.now nonce.now terms note.now waiting last sealed.now out.old }
+    ensures output { out.new ≡ take_out_at width key.now nonce.now terms note.now waiting last sealed.now out.old }
 {
     if width == 32 {
         return w32::open(key, nonce, terms, note, waiting, last, sealed, out);

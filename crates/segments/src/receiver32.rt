@@ -1,6 +1,5 @@
 // A receiver of segments at 32-bit words: it takes them in order, and hands a message out only after its tag.
 ghost use Rattle.std.specs.Prelude.{◌≡◌, ◌+◌, length};
-ghost use Rattle.norx.specs.Lent.{was};
 ghost use Rattle.norx.specs.Norx.{word32, row_bytes};
 ghost use Rattle.cutting.specs.Cutting.{waiting_first};
 ghost use Rattle.segments.specs.Receivers.{no_receiving, starts_answer, starts_with, taking_answer, taking_runs, taking_out, after_taking};
@@ -42,7 +41,7 @@ pub struct ReceiverTake {
 impl Receiver {
     // Starts a receiver of one job, which waits for its first segment; the one in which every number is zero where the start is refused.
     pub fn start(key: &[u8], nonce: &[u8], terms: Terms) -> ReceiverStep
-        ensures { result ≡ record { answer = starts_answer word32 (was key) (was nonce) terms; receiver = made32 (starts_with word32 (was key) (was nonce) terms) } }
+        ensures { result ≡ record { answer = starts_answer word32 key.now nonce.now terms; receiver = made32 (starts_with word32 key.now nonce.now terms) } }
     {
         let answer = start_answer(ROW, terms, key.len(), nonce.len() + SEGMENT_NUMBER);
         if done(answer) {
@@ -62,8 +61,8 @@ impl Receiver {
 
     // Takes the segment that it waits for, and then waits for the next; or refuses it, and waits for the same.
     pub fn take(self, note: &[u8], last: bool, sealed: &[u8], out: &mut [u8]) -> ReceiverTake
-        ensures step { result ≡ record { answer = taking_answer word32 (seen32 self) (was note) last (was sealed) (was out); runs = taking_runs word32 (seen32 self) (was note) last (was sealed) (was out); receiver = made32 (after_taking word32 (seen32 self) (was note) last (was sealed) (was out)) } }
-        ensures output { out.new ≡ taking_out word32 (seen32 self) (was note) last (was sealed) (was out) }
+        ensures step { result ≡ record { answer = taking_answer word32 (seen32 self) note.now last sealed.now out.old; runs = taking_runs word32 (seen32 self) note.now last sealed.now out.old; receiver = made32 (after_taking word32 (seen32 self) note.now last sealed.now out.old) } }
+        ensures output { out.new ≡ taking_out word32 (seen32 self) note.now last sealed.now out.old }
     {
         let key = self.key;
         let nonce = self.nonce;
@@ -118,9 +117,9 @@ impl Receiver {
         ensures { result ≡ made32 (record { key = was key; nonce = was nonce; terms = terms; waiting = waiting_first }) }
     {
         let mut k = [0u8; ROW];
-        bytes::copy(key, &mut k);
+        texts::copy(key, &mut k);
         let mut n = [0u8; JOB_NONCE];
-        bytes::copy(nonce, &mut n);
+        texts::copy(nonce, &mut n);
         Receiver::first(k, n, terms)
     }
 }

@@ -1,7 +1,6 @@
 // One segment sealed and one opened at 32-bit words. Nonce is the job's, eight bytes shorter than NORX's.
 ghost use Rattle.std.specs.Prelude.{◌≡◌, true, [], ◌+◌, length};
-ghost use Rattle.norx.specs.Lent.{was};
-ghost use Rattle.norx.specs.Norx.{word32, row_bytes, tag_bits, row_of, header_mark, after_part, start as norxStart, sealed as sealedOf};
+ghost use Rattle.norx.specs.Norx.{word32, row_bytes, tag_bits, row_of, header_mark, after_part, start as norx_start, sealed as sealed_of};
 ghost use Rattle.rules.specs.Rules.{tag_bytes};
 ghost use Rattle.rules.specs.Calls.{Exact};
 ghost use Rattle.rules.specs.OneCall.{tag_answer, tag_out};
@@ -23,7 +22,7 @@ use sponge32::pieces::{end, feed};
 // The segment's nonce: that of its job, and behind it the number of index and flag.
 fn nonce_of(job: &[u8], index: u64, last: bool) -> [u8; ROW]
     requires { length job.now + 8 ≡ row_bytes word32 }
-    ensures { result ≡ segment_nonce (was job) index last }
+    ensures { result ≡ segment_nonce job.now index last }
 {
     let own = number(index, last);
     let mut nonce = [0u8; ROW];
@@ -34,7 +33,7 @@ fn nonce_of(job: &[u8], index: u64, last: bool) -> [u8; ROW]
 // The state where the body begins: front and note are taken in one after the other.
 fn before_body(terms: Terms, key: Row, nonce: &[u8], note: &[u8]) -> State
     requires { (length nonce.now ≡ row_bytes word32) × (terms_ok terms ≡ true) }
-    ensures { result ≡ after_part word32 terms.rounds header_mark (norxStart word32 terms.rounds (tag_bits word32) key (row_of word32 (was nonce))) (segment_header terms (was note)) }
+    ensures { result ≡ after_part word32 terms.rounds header_mark (norx_start word32 terms.rounds (tag_bits word32) key (row_of word32 nonce.now)) (segment_header terms note.now) }
 {
     let rounds = terms.rounds;
     let b = front(terms.edition);
@@ -55,7 +54,7 @@ fn seal_checked(
     out: &mut [u8],
 )
     requires { Exact (row_bytes word32) (tag_bytes word32) (length key.now) (length nonce.now + 8) (length body.now) (length out.old) × (terms_ok terms ≡ true) }
-    ensures { out.new ≡ sealedOf word32 terms.rounds (tag_bits word32) (was key) (segment_nonce (was nonce) index last) (segment_header terms (was note)) (was body) [] }
+    ensures { out.new ≡ sealed_of word32 terms.rounds (tag_bits word32) key.now (segment_nonce nonce.now index last) (segment_header terms note.now) body.now [] }
 {
     let k = row(key);
     let n = nonce_of(nonce, index, last);
@@ -74,9 +73,9 @@ pub fn seal(
     body: &[u8],
     out: &mut [u8],
 ) -> Outcome
-    ensures answer { result.answer ≡ segment_answer word32 (was key) (was nonce) terms (was note) index last (was body) (was out) }
-    ensures runs { result.runs ≡ segment_runs word32 (was key) (was nonce) terms (was note) index last (was body) (was out) }
-    ensures output { out.new ≡ segment_out word32 (was key) (was nonce) terms (was note) index last (was body) (was out) }
+    ensures answer { result.answer ≡ segment_answer word32 key.now nonce.now terms note.now index last body.now out.old }
+    ensures runs { result.runs ≡ segment_runs word32 key.now nonce.now terms note.now index last body.now out.old }
+    ensures output { out.new ≡ segment_out word32 key.now nonce.now terms note.now index last body.now out.old }
 {
     let n = runs(FRONT + note.len(), body.len(), 0);
     let as_one_call = seal_checks(
@@ -114,8 +113,8 @@ fn open_checked(
     out: &mut [u8],
 ) -> Answer
     requires { Exact (row_bytes word32) (tag_bytes word32) (length key.now) (length nonce.now + 8) (length out.old) (length sealed.now) × (terms_ok terms ≡ true) }
-    ensures answer { result ≡ tag_answer word32 terms.rounds (was key) (segment_nonce (was nonce) index last) (segment_header terms (was note)) (was sealed) [] (was out) }
-    ensures output { out.new ≡ tag_out word32 terms.rounds (was key) (segment_nonce (was nonce) index last) (segment_header terms (was note)) (was sealed) [] (was out) }
+    ensures answer { result ≡ tag_answer word32 terms.rounds key.now (segment_nonce nonce.now index last) (segment_header terms note.now) sealed.now [] out.old }
+    ensures output { out.new ≡ tag_out word32 terms.rounds key.now (segment_nonce nonce.now index last) (segment_header terms note.now) sealed.now [] out.old }
 {
     let k = row(key);
     let n = nonce_of(nonce, index, last);
@@ -134,9 +133,9 @@ pub fn open(
     sealed: &[u8],
     out: &mut [u8],
 ) -> Outcome
-    ensures answer { result.answer ≡ take_answer word32 (was key) (was nonce) terms (was note) waiting last (was sealed) (was out) }
-    ensures runs { result.runs ≡ take_runs word32 (was key) (was nonce) terms (was note) waiting last (was sealed) (was out) }
-    ensures output { out.new ≡ take_out word32 (was key) (was nonce) terms (was note) waiting last (was sealed) (was out) }
+    ensures answer { result.answer ≡ take_answer word32 key.now nonce.now terms note.now waiting last sealed.now out.old }
+    ensures runs { result.runs ≡ take_runs word32 key.now nonce.now terms note.now waiting last sealed.now out.old }
+    ensures output { out.new ≡ take_out word32 key.now nonce.now terms note.now waiting last sealed.now out.old }
 {
     let n = runs(FRONT + note.len(), out.len(), 0);
     let as_one_call = open_checks(

@@ -5,24 +5,24 @@ use denote.Triple.Clauses.{AtExit}
 use contract.Lifetimes.{Lfts}
 use borrow.Fn.World.{ArgsD, ResD}
 use borrow.Fn.Kinds.{ended_of}
-use Rattle.session32.specs.contracts.seal.Sealing.start.{signature-Sealing-start}
+use Rattle.session32.specs.contracts.seal.Sealing.start.{signature as signature-Sealing-start}
 use Rattle.session32.proofs.seal.Sealing.start.Kinds as kinds-Sealing-start
-use Rattle.session32.proofs.seal.Sealing.start.Reads.{Post-Sealing-start}
-use Rattle.session32.specs.contracts.seal.Sealing.piece.{signature-Sealing-piece}
+use Rattle.session32.proofs.seal.Sealing.start.Reads.{Post as Post-Sealing-start}
+use Rattle.session32.specs.contracts.seal.Sealing.piece.{signature as signature-Sealing-piece}
 use Rattle.session32.proofs.seal.Sealing.piece.Kinds as kinds-Sealing-piece
-use Rattle.session32.proofs.seal.Sealing.piece.Reads.{Post-Sealing-piece}
-use Rattle.session32.specs.contracts.seal.Sealing.close.{signature-Sealing-close}
+use Rattle.session32.proofs.seal.Sealing.piece.Reads.{Post as Post-Sealing-piece}
+use Rattle.session32.specs.contracts.seal.Sealing.close.{signature as signature-Sealing-close}
 use Rattle.session32.proofs.seal.Sealing.close.Kinds as kinds-Sealing-close
-use Rattle.session32.proofs.seal.Sealing.close.Reads.{Post-Sealing-close}
-use Rattle.session32.specs.contracts.check.Checking.start.{signature-Checking-start}
+use Rattle.session32.proofs.seal.Sealing.close.Reads.{Post as Post-Sealing-close}
+use Rattle.session32.specs.contracts.check.Checking.start.{signature as signature-Checking-start}
 use Rattle.session32.proofs.check.Checking.start.Kinds as kinds-Checking-start
-use Rattle.session32.proofs.check.Checking.start.Reads.{Post-Checking-start}
-use Rattle.session32.specs.contracts.check.Checking.piece.{signature-Checking-piece}
+use Rattle.session32.proofs.check.Checking.start.Reads.{Post as Post-Checking-start}
+use Rattle.session32.specs.contracts.check.Checking.piece.{signature as signature-Checking-piece}
 use Rattle.session32.proofs.check.Checking.piece.Kinds as kinds-Checking-piece
-use Rattle.session32.proofs.check.Checking.piece.Reads.{Post-Checking-piece}
-use Rattle.session32.specs.contracts.check.Checking.close.{signature-Checking-close}
+use Rattle.session32.proofs.check.Checking.piece.Reads.{Post as Post-Checking-piece}
+use Rattle.session32.specs.contracts.check.Checking.close.{signature as signature-Checking-close}
 use Rattle.session32.proofs.check.Checking.close.Kinds as kinds-Checking-close
-use Rattle.session32.proofs.check.Checking.close.Reads.{Post-Checking-close}
+use Rattle.session32.proofs.check.Checking.close.Reads.{Post as Post-Checking-close}
 
 pub one_sealing_start : (κs : Lfts 2) (a : ArgsD signature-Sealing-start κs) (r r' : ResD signature-Sealing-start κs) (s s' : AtExit (ended_of 2 kinds-Sealing-start.ps kinds-Sealing-start.r) κs)
     → Post-Sealing-start κs a r s → Post-Sealing-start κs a r' s' → r ≡ r'

@@ -1,6 +1,5 @@
 // Checking sessions at 32-bit words.
 ghost use Rattle.std.specs.Prelude.{[], true, ◌≡◌, length};
-ghost use Rattle.norx.specs.Lent.{was};
 ghost use Rattle.norx.specs.Norx.{word32, row_bytes};
 ghost use Rattle.places.specs.Terms.{terms_ok};
 ghost use Rattle.places.specs.Places.{Accepted};
@@ -50,7 +49,7 @@ pub struct CheckingClose {
 // The state after a piece that is accepted.
 fn taken_at(s: State, p: Place, part: Part, bytes: &[u8]) -> State
     requires { Accepted p part (length bytes.now) true }
-    ensures { result ≡ taken_at word32 p checking part (was bytes) s }
+    ensures { result ≡ taken_at word32 p checking part bytes.now s }
 {
     let rounds = p.terms.rounds;
     let ready = readied(s, p, rank(part));
@@ -64,7 +63,7 @@ fn taken_at(s: State, p: Place, part: Part, bytes: &[u8]) -> State
 impl Checking {
     // Starts a session for these terms; the closed session where the start is refused.
     pub fn start(key: &[u8], nonce: &[u8], terms: Terms) -> CheckingStep
-        ensures { result ≡ start_of checking32 (was key) (was nonce) terms }
+        ensures { result ≡ start_of checking32 key.now nonce.now terms }
     {
         let answer = start_answer(ROW, terms, key.len(), nonce.len());
         if done(answer) {
@@ -84,7 +83,7 @@ impl Checking {
 
     // Takes a piece in, or refuses it and changes nothing; a body piece is ciphertext.
     pub fn piece(self, label: Label, bytes: &[u8]) -> CheckingStep
-        ensures { result ≡ piece_of checking32 self label (was bytes) [] }
+        ensures { result ≡ piece_of checking32 self label bytes.now [] }
     {
         let p = self.place();
         let part = label.part;
@@ -112,7 +111,7 @@ impl Checking {
 
     // Compares the whole tag and gives back the closed session, or refuses and changes nothing.
     pub fn close(self, edition: Edition, tag: &[u8]) -> CheckingClose
-        ensures { result ≡ checking_close (close_of checking32 self edition (was tag)) (close_runs checking32 self edition (was tag)) }
+        ensures { result ≡ checking_close (close_of checking32 self edition tag.now) (close_runs checking32 self edition tag.now) }
     {
         let n = runs_of(self.place());
         let step = self.closing(edition, tag);
@@ -128,7 +127,7 @@ impl Checking {
 
     // The answer of a close, and the session then.
     fn closing(self, edition: Edition, tag: &[u8]) -> CheckingStep
-        ensures { result ≡ close_of checking32 self edition (was tag) }
+        ensures { result ≡ close_of checking32 self edition tag.now }
     {
         let p = self.place();
         let answer = close_answer(p, edition, TAG, tag.len());
@@ -193,7 +192,7 @@ impl Checking {
     // Open in the note, with nothing of it yet.
     fn fresh(key: &[u8], nonce: &[u8], terms: Terms) -> Checking
         requires { (length key.now ≡ row_bytes word32) × (length nonce.now ≡ row_bytes word32) × (terms_ok terms ≡ true) }
-        ensures { result ≡ fresh_of checking32 (was key) (was nonce) terms }
+        ensures { result ≡ fresh_of checking32 key.now nonce.now terms }
     {
         let k = row(key);
         let s = fresh_state(terms, k, nonce);

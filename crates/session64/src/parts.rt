@@ -1,11 +1,10 @@
 // The state of a session at 64-bit words, as its parts go by.
 ghost use Rattle.std.specs.Prelude.{◌≡◌, true, ◌≤◌, length};
-ghost use Rattle.norx.specs.Lent.{was};
 ghost use Rattle.norx.specs.Norx.{word64, row_bytes, tag_bits, row_of, tag_of};
 ghost use Rattle.rules.specs.Rules.{rounds_ok};
 ghost use Rattle.places.specs.Terms.{terms_ok};
 ghost use Rattle.places.specs.Places.{behind_all, limit_of};
-ghost use Rattle.session.specs.Sessions.{rows_of, flat_of, fresh_state, end_if, readied as readiedOf, place_runs_within};
+ghost use Rattle.session.specs.Sessions.{rows_of, flat_of, fresh_state, end_if, readied as readied_of, place_runs_within};
 ghost use Rattle.places.specs.declared.Part.TheVariants.{Note};
 
 use blocks64::ends::{row, start, tag};
@@ -41,7 +40,7 @@ pub(crate) fn flat(s: State) -> [Word; 16]
 // The state that a session starts with: the front stands before its note.
 pub(crate) fn fresh_state(terms: Terms, key: Row, nonce: &[u8]) -> State
     requires { (length nonce.now ≡ row_bytes word64) × (terms_ok terms ≡ true) }
-    ensures { result ≡ fresh_state word64 (tag_bits word64) terms key (row_of word64 (was nonce)) }
+    ensures { result ≡ fresh_state word64 (tag_bits word64) terms key (row_of word64 nonce.now) }
 {
     let b = front(terms.edition);
     feed(
@@ -64,7 +63,7 @@ fn end_if(due: bool, s: State, rounds: u32, mark: u8, n: usize) -> State
 // The parts from the present one on ended, up to the one of rank next and without it.
 pub(crate) fn readied(s: State, p: Place, next: u32) -> State
     requires { (p.note ≤ limit_of Note) × (terms_ok p.terms ≡ true) }
-    ensures { result ≡ readiedOf word64 p next s }
+    ensures { result ≡ readied_of word64 p next s }
 {
     let standing = p.standing;
     let rounds = p.terms.rounds;
@@ -79,7 +78,7 @@ pub(crate) fn readied(s: State, p: Place, next: u32) -> State
 // The tag of all that a session took in.
 pub(crate) fn own_tag(s: State, p: Place, key: Row) -> [u8; TAG]
     requires { (p.note ≤ limit_of Note) × (terms_ok p.terms ≡ true) }
-    ensures { result ≡ tag_of word64 p.terms.rounds (tag_bits word64) key (readiedOf word64 p behind_all s) }
+    ensures { result ≡ tag_of word64 p.terms.rounds (tag_bits word64) key (readied_of word64 p behind_all s) }
 {
     tag(p.terms.rounds, key, readied(s, p, BEHIND_ALL))
 }

@@ -1,6 +1,5 @@
 // Sealing sessions at 64-bit words.
 ghost use Rattle.std.specs.Prelude.{◌≡◌, true, length};
-ghost use Rattle.norx.specs.Lent.{was};
 ghost use Rattle.norx.specs.Norx.{word64, row_bytes};
 ghost use Rattle.places.specs.Terms.{terms_ok};
 ghost use Rattle.places.specs.Places.{Accepted};
@@ -49,8 +48,8 @@ pub struct SealingClose {
 // The state after a piece that is accepted; of a body piece the ciphertext is written.
 fn taken_at(s: State, p: Place, part: Part, bytes: &[u8], out: &mut [u8]) -> State
     requires { Accepted p part (length bytes.now) (exact_of sealing part (length bytes.now) (length out.old)) }
-    ensures state { result ≡ taken_at word64 p sealing part (was bytes) s }
-    ensures output { out.new ≡ written_at word64 p sealing part (was bytes) s (was out) }
+    ensures state { result ≡ taken_at word64 p sealing part bytes.now s }
+    ensures output { out.new ≡ written_at word64 p sealing part bytes.now s out.old }
 {
     let rounds = p.terms.rounds;
     let ready = readied(s, p, rank(part));
@@ -64,7 +63,7 @@ fn taken_at(s: State, p: Place, part: Part, bytes: &[u8], out: &mut [u8]) -> Sta
 impl Sealing {
     // Starts a session for these terms; the closed session where the start is refused.
     pub fn start(key: &[u8], nonce: &[u8], terms: Terms) -> SealingStep
-        ensures { result ≡ start_of sealing64 (was key) (was nonce) terms }
+        ensures { result ≡ start_of sealing64 key.now nonce.now terms }
     {
         let answer = start_answer(ROW, terms, key.len(), nonce.len());
         if done(answer) {
@@ -84,8 +83,8 @@ impl Sealing {
 
     // Takes a piece in, or refuses it and changes nothing. The output of a body piece is as long as the piece, and takes its ciphertext; that of any other piece has no bytes.
     pub fn piece(self, label: Label, bytes: &[u8], out: &mut [u8]) -> SealingStep
-        ensures step { result ≡ piece_of sealing64 self label (was bytes) (was out) }
-        ensures output { out.new ≡ piece_out sealing64 self label (was bytes) (was out) }
+        ensures step { result ≡ piece_of sealing64 self label bytes.now out.old }
+        ensures output { out.new ≡ piece_out sealing64 self label bytes.now out.old }
     {
         let p = self.place();
         let part = label.part;
@@ -111,8 +110,8 @@ impl Sealing {
 
     // Writes the tag and gives back the closed session, or refuses and changes nothing.
     pub fn close(self, edition: Edition, tag: &mut [u8]) -> SealingClose
-        ensures step { result ≡ sealing_close (close_of sealing64 self edition (was tag)) (close_runs sealing64 self edition (was tag)) }
-        ensures tag { tag.new ≡ close_tag sealing64 self edition (was tag) }
+        ensures step { result ≡ sealing_close (close_of sealing64 self edition tag.old) (close_runs sealing64 self edition tag.old) }
+        ensures tag { tag.new ≡ close_tag sealing64 self edition tag.old }
     {
         let n = runs_of(self.place());
         let step = self.closing(edition, tag);
@@ -128,8 +127,8 @@ impl Sealing {
 
     // The answer of a close, and the session then.
     fn closing(self, edition: Edition, tag: &mut [u8]) -> SealingStep
-        ensures step { result ≡ close_of sealing64 self edition (was tag) }
-        ensures tag { tag.new ≡ close_tag sealing64 self edition (was tag) }
+        ensures step { result ≡ close_of sealing64 self edition tag.old }
+        ensures tag { tag.new ≡ close_tag sealing64 self edition tag.old }
     {
         let p = self.place();
         let answer = close_answer(p, edition, TAG, tag.len());
@@ -137,7 +136,7 @@ impl Sealing {
             let words = self.words;
             let key = self.key;
             let own = own_tag(rows(words), p, key);
-            bytes::copy(&own, tag);
+            texts::copy(&own, tag);
             let closed = Sealing::closed();
             SealingStep {
                 answer: Answer::Done,
@@ -194,7 +193,7 @@ impl Sealing {
     // Open in the note, with nothing of it yet.
     fn fresh(key: &[u8], nonce: &[u8], terms: Terms) -> Sealing
         requires { (length key.now ≡ row_bytes word64) × (length nonce.now ≡ row_bytes word64) × (terms_ok terms ≡ true) }
-        ensures { result ≡ fresh_of sealing64 (was key) (was nonce) terms }
+        ensures { result ≡ fresh_of sealing64 key.now nonce.now terms }
     {
         let k = row(key);
         let s = fresh_state(terms, k, nonce);

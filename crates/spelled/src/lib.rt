@@ -1,12 +1,12 @@
 // Bytes spelled as a word of text: `0f20`, a pair of hexadecimal digits for each byte; `-`, no bytes; `a5*300`, one byte so many times.
+#![tactic(auto)]
 ghost use Rattle.std.specs.Prelude.{◌≡◌, ◌*◌, ◌<◌, ◌≤◌, [], ◌∷◌, ◌++◌, length, take, drop, replicate};
-ghost use Rattle.norx.specs.Lent.{was};
 ghost use Rattle.spelled.specs.Spelled.{hex_digit, hex_text, plain_word, put_front, put_length, AsPairs, AsTimes, Spells, ReadIs, IsDigit, DigitIs, AllDigits, Starred, Says};
 
 use decimal::{Number, read_number};
 
 // How many bytes a word spells, or that there is nothing to be read.
-#[derive(Drop)]
+#[derive(Clone, Copy)]
 pub enum Spelled {
     Length(usize),
     Nothing,
@@ -14,7 +14,7 @@ pub enum Spelled {
 
 // Reads the bytes that a word spells to the front of a buffer; a word in none of these forms, or of more bytes than there is room for, changes nothing.
 pub fn read_bytes(word: &[u8], out: &mut [u8]) -> Spelled
-    ensures { ReadIs (Spells (was word)) (was out) out.new result }
+    ensures { ReadIs (Spells word.now) out.old out.new result }
 {
     if is_none(word) {
         return Spelled::Length(0);
@@ -26,7 +26,7 @@ pub fn read_bytes(word: &[u8], out: &mut [u8]) -> Spelled
 }
 
 fn is_none(word: &[u8]) -> bool
-    ensures { Says (was word ≡ 45 ∷ []) result }
+    ensures { Says (word.now ≡ 45 ∷ []) result }
 {
     if word.len() == 1 {
         return word[0] == b'-';
@@ -35,7 +35,7 @@ fn is_none(word: &[u8]) -> bool
 }
 
 fn is_repeat(word: &[u8]) -> bool
-    ensures { Says (Starred (was word)) result }
+    ensures { Says (Starred word.now) result }
 {
     if 3 < word.len() {
         return word[2] == b'*';
@@ -45,7 +45,7 @@ fn is_repeat(word: &[u8]) -> bool
 
 // Two digits for each byte.
 fn read_pairs(word: &[u8], out: &mut [u8]) -> Spelled
-    ensures { ReadIs (AsPairs (was word)) (was out) out.new result }
+    ensures { ReadIs (AsPairs word.now) out.old out.new result }
 {
     let n = word.len() / 2;
     if n == 0 {
@@ -65,7 +65,7 @@ fn read_pairs(word: &[u8], out: &mut [u8]) -> Spelled
 }
 
 fn all_digits(word: &[u8]) -> bool
-    ensures { Says (AllDigits (was word)) result }
+    ensures { Says (AllDigits word.now) result }
 {
     let mut i = 0;
     while i < word.len() {
@@ -81,7 +81,7 @@ fn all_digits(word: &[u8]) -> bool
 fn lay(word: &[u8], n: usize, out: &mut [u8])
     requires { AllDigits word.now × (length word.now ≡ 2 * n) × (n ≤ length out.old) }
     ensures bytes { hex_text (take n out.new) ≡ was word }
-    ensures rest { drop n out.new ≡ drop n (was out) }
+    ensures rest { drop n out.new ≡ drop n out.old }
 {
     let mut i = 0;
     while i < n {
@@ -93,7 +93,7 @@ fn lay(word: &[u8], n: usize, out: &mut [u8])
 // One byte so many times; the word has its `*`.
 fn read_times(word: &[u8], out: &mut [u8]) -> Spelled
     requires { Starred word.now }
-    ensures { ReadIs (AsTimes (was word)) (was out) out.new result }
+    ensures { ReadIs (AsTimes word.now) out.old out.new result }
 {
     if !all_digits(&word[0..2]) {
         return Spelled::Nothing;
@@ -114,7 +114,7 @@ fn read_times(word: &[u8], out: &mut [u8]) -> Spelled
 
 // Lays one byte over all of a buffer.
 fn fill(b: u8, out: &mut [u8])
-    ensures { out.new ≡ replicate (length (was out)) b }
+    ensures { out.new ≡ replicate (length out.old) b }
 {
     let mut i = 0;
     while i < out.len() {
@@ -144,8 +144,8 @@ fn digit(b: u8) -> u8
 
 // Writes the word of some bytes to the front of a buffer, and gives its length; where there is no room for it, nothing is changed, and 0 given.
 pub fn write_bytes(bytes: &[u8], out: &mut [u8]) -> usize
-    ensures length { result ≡ put_length (plain_word (was bytes)) (was out) }
-    ensures word { out.new ≡ put_front (plain_word (was bytes)) (was out) }
+    ensures length { result ≡ put_length (plain_word bytes.now) out.old }
+    ensures word { out.new ≡ put_front (plain_word bytes.now) out.old }
 {
     if bytes.len() == 0 {
         return write_none(out);
@@ -158,8 +158,8 @@ pub fn write_bytes(bytes: &[u8], out: &mut [u8]) -> usize
 }
 
 fn write_none(out: &mut [u8]) -> usize
-    ensures length { result ≡ put_length (45 ∷ []) (was out) }
-    ensures word { out.new ≡ put_front (45 ∷ []) (was out) }
+    ensures length { result ≡ put_length (45 ∷ []) out.old }
+    ensures word { out.new ≡ put_front (45 ∷ []) out.old }
 {
     if out.len() == 0 {
         return 0;
@@ -171,7 +171,7 @@ fn write_none(out: &mut [u8]) -> usize
 // Two digits for each byte.
 fn write_pairs(bytes: &[u8], out: &mut [u8])
     requires { 2 * length bytes.now ≤ length out.old }
-    ensures { out.new ≡ hex_text (was bytes) ++ drop (2 * length (was bytes)) (was out) }
+    ensures { out.new ≡ hex_text bytes.now ++ drop (2 * length bytes.now) out.old }
 {
     let mut i = 0;
     while i < bytes.len() {

@@ -5,27 +5,27 @@ use denote.Triple.Clauses.{AtExit}
 use contract.Lifetimes.{Lfts}
 use borrow.Fn.World.{ArgsD, ResD}
 use borrow.Fn.Kinds.{ended_of}
-use Rattle.sponge64.specs.contracts.parts.absorb.{signature-parts-absorb}
+use Rattle.sponge64.specs.contracts.parts.absorb.{signature as signature-parts-absorb}
 use Rattle.sponge64.proofs.parts.absorb.Kinds as kinds-parts-absorb
-use Rattle.sponge64.proofs.parts.absorb.Reads.{Post-parts-absorb}
-use Rattle.sponge64.specs.contracts.parts.encrypt.{signature-parts-encrypt}
+use Rattle.sponge64.proofs.parts.absorb.Reads.{Post as Post-parts-absorb}
+use Rattle.sponge64.specs.contracts.parts.encrypt.{signature as signature-parts-encrypt}
 use Rattle.sponge64.proofs.parts.encrypt.Kinds as kinds-parts-encrypt
-use Rattle.sponge64.proofs.parts.encrypt.Reads.{Post-parts-encrypt}
-use Rattle.sponge64.specs.contracts.parts.decrypt.{signature-parts-decrypt}
+use Rattle.sponge64.proofs.parts.encrypt.Reads.{Post as Post-parts-encrypt}
+use Rattle.sponge64.specs.contracts.parts.decrypt.{signature as signature-parts-decrypt}
 use Rattle.sponge64.proofs.parts.decrypt.Kinds as kinds-parts-decrypt
-use Rattle.sponge64.proofs.parts.decrypt.Reads.{Post-parts-decrypt}
-use Rattle.sponge64.specs.contracts.pieces.feed.{signature-pieces-feed}
+use Rattle.sponge64.proofs.parts.decrypt.Reads.{Post as Post-parts-decrypt}
+use Rattle.sponge64.specs.contracts.pieces.feed.{signature as signature-pieces-feed}
 use Rattle.sponge64.proofs.pieces.feed.Kinds as kinds-pieces-feed
-use Rattle.sponge64.proofs.pieces.feed.Reads.{Post-pieces-feed}
-use Rattle.sponge64.specs.contracts.pieces.end.{signature-pieces-end}
+use Rattle.sponge64.proofs.pieces.feed.Reads.{Post as Post-pieces-feed}
+use Rattle.sponge64.specs.contracts.pieces.end.{signature as signature-pieces-end}
 use Rattle.sponge64.proofs.pieces.end.Kinds as kinds-pieces-end
-use Rattle.sponge64.proofs.pieces.end.Reads.{Post-pieces-end}
-use Rattle.sponge64.specs.contracts.pieces.seal.{signature-pieces-seal}
+use Rattle.sponge64.proofs.pieces.end.Reads.{Post as Post-pieces-end}
+use Rattle.sponge64.specs.contracts.pieces.seal.{signature as signature-pieces-seal}
 use Rattle.sponge64.proofs.pieces.seal.Kinds as kinds-pieces-seal
-use Rattle.sponge64.proofs.pieces.seal.Reads.{Post-pieces-seal}
-use Rattle.sponge64.specs.contracts.pieces.open.{signature-pieces-open}
+use Rattle.sponge64.proofs.pieces.seal.Reads.{Post as Post-pieces-seal}
+use Rattle.sponge64.specs.contracts.pieces.open.{signature as signature-pieces-open}
 use Rattle.sponge64.proofs.pieces.open.Kinds as kinds-pieces-open
-use Rattle.sponge64.proofs.pieces.open.Reads.{Post-pieces-open}
+use Rattle.sponge64.proofs.pieces.open.Reads.{Post as Post-pieces-open}
 
 pub one_absorb : (κs : Lfts 1) (a : ArgsD signature-parts-absorb κs) (r r' : ResD signature-parts-absorb κs) (s s' : AtExit (ended_of 1 kinds-parts-absorb.ps kinds-parts-absorb.r) κs)
     → Post-parts-absorb κs a r s → Post-parts-absorb κs a r' s' → r ≡ r'

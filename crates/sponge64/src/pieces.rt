@@ -1,6 +1,5 @@
 // A part in pieces that are cut anywhere. n is how many bytes of the part came before, of which only n modulo R matters; j is that.
 ghost use Rattle.std.specs.Prelude.{◌≡◌, cond, ◌++◌, ◌⊎◌, ◌+◌, ◌-◌, ◌%◌, ◌<◌, ◌≤◌, eqb, length, take, drop, replicate};
-ghost use Rattle.norx.specs.Lent.{was};
 ghost use Rattle.norx.specs.Norx.{word64, rate, body_mark, rate_of};
 ghost use Rattle.norx.specs.Stream.{placed as placed_of, fed, fed_text, unfed, ended as ended_of};
 ghost use Rattle.rules.specs.Rules.{rounds_of};
@@ -16,10 +15,10 @@ use rules::w64::*;
 // The bytes d at place j of a block of zeros.
 fn placed(j: usize, d: &[u8]) -> [u8; RATE]
     requires { j + length d.now ≤ rate word64 }
-    ensures { result ≡ placed_of j (was d) ++ replicate (rate word64 - j - length (was d)) 0 }
+    ensures { result ≡ placed_of j d.now ++ replicate (rate word64 - j - length d.now) 0 }
 {
     let mut b = [0u8; RATE];
-    bytes::copy(d, &mut b[j..]);
+    texts::copy(d, &mut b[j..]);
     b
 }
 
@@ -38,7 +37,7 @@ fn filling(j: usize, len: usize) -> usize
 // Bytes that go on in a block which is filled up to place j.
 fn feed_filling(s: State, rounds: u32, m: u8, j: usize, d: &[u8]) -> State
     requires { (j + length d.now ≤ rate word64) × (0 < length d.now → 0 < j) }
-    ensures { result ≡ fed word64 (rounds_of word64 rounds) m s j (was d) }
+    ensures { result ≡ fed word64 (rounds_of word64 rounds) m s j d.now }
 {
     if d.len() == 0 {
         return s;
@@ -50,7 +49,7 @@ fn feed_filling(s: State, rounds: u32, m: u8, j: usize, d: &[u8]) -> State
 // Bytes that begin a block and leave room in it.
 fn feed_left(s: State, rounds: u32, m: u8, left: &[u8]) -> State
     requires { length left.now < rate word64 }
-    ensures { result ≡ fed word64 (rounds_of word64 rounds) m s 0 (was left) }
+    ensures { result ≡ fed word64 (rounds_of word64 rounds) m s 0 left.now }
 {
     if left.len() == 0 {
         return s;
@@ -61,7 +60,7 @@ fn feed_left(s: State, rounds: u32, m: u8, left: &[u8]) -> State
 
 // Bytes that begin a block: the full blocks, and the bytes left.
 fn feed_aligned(s: State, rounds: u32, m: u8, d: &[u8]) -> State
-    ensures { result ≡ fed word64 (rounds_of word64 rounds) m s 0 (was d) }
+    ensures { result ≡ fed word64 (rounds_of word64 rounds) m s 0 d.now }
 {
     let at = d.len() / RATE * RATE;
     feed_left(absorb_full(s, rounds, m, d), rounds, m, &d[at..])
@@ -69,7 +68,7 @@ fn feed_aligned(s: State, rounds: u32, m: u8, d: &[u8]) -> State
 
 // A piece of a part taken in with the part's mark.
 pub fn feed(s: State, rounds: u32, m: u8, n: usize, d: &[u8]) -> State
-    ensures { result ≡ fed word64 (rounds_of word64 rounds) m s n (was d) }
+    ensures { result ≡ fed word64 (rounds_of word64 rounds) m s n d.now }
 {
     let j = n % RATE;
     let k = filling(j, d.len());
@@ -95,18 +94,18 @@ pub fn end(s: State, rounds: u32, m: u8, n: usize) -> State
 // As many of the rate's bytes, from place j on, as the output is long.
 fn show_rate(t: State, j: usize, out: &mut [u8])
     requires { j + length out.old ≤ rate word64 }
-    ensures { out.new ≡ take (length (was out)) (drop j (rate_of word64 t)) }
+    ensures { out.new ≡ take (length out.old) (drop j (rate_of word64 t)) }
 {
     let r = rate_bytes(t);
     let e = j + out.len();
-    bytes::copy(&r[j..e], out);
+    texts::copy(&r[j..e], out);
 }
 
 // Bytes of a body that go on in a block, and their ciphertext.
 fn seal_filling(s: State, rounds: u32, j: usize, d: &[u8], out: &mut [u8]) -> State
     requires { (j < rate word64) × (j + length d.now ≤ rate word64) × (0 < length d.now → 0 < j) × (length out.old ≡ length d.now) }
-    ensures state { result ≡ fed word64 (rounds_of word64 rounds) body_mark s j (was d) }
-    ensures output { out.new ≡ fed_text word64 (rounds_of word64 rounds) s j (was d) }
+    ensures state { result ≡ fed word64 (rounds_of word64 rounds) body_mark s j d.now }
+    ensures output { out.new ≡ fed_text word64 (rounds_of word64 rounds) s j d.now }
 {
     let t = feed_filling(s, rounds, BODY_MARK, j, d);
     show_rate(t, j, out);
@@ -116,8 +115,8 @@ fn seal_filling(s: State, rounds: u32, j: usize, d: &[u8], out: &mut [u8]) -> St
 // Bytes of a body that begin a block and leave room in it, and their ciphertext.
 fn seal_left(s: State, rounds: u32, left: &[u8], out: &mut [u8]) -> State
     requires { (length left.now < rate word64) × (length out.old ≡ length left.now) }
-    ensures state { result ≡ fed word64 (rounds_of word64 rounds) body_mark s 0 (was left) }
-    ensures output { out.new ≡ fed_text word64 (rounds_of word64 rounds) s 0 (was left) }
+    ensures state { result ≡ fed word64 (rounds_of word64 rounds) body_mark s 0 left.now }
+    ensures output { out.new ≡ fed_text word64 (rounds_of word64 rounds) s 0 left.now }
 {
     let t = feed_left(s, rounds, BODY_MARK, left);
     show_rate(t, 0, out);
@@ -127,8 +126,8 @@ fn seal_left(s: State, rounds: u32, left: &[u8], out: &mut [u8]) -> State
 // Bytes of a body that begin a block: the full blocks and the bytes left, and their ciphertext.
 fn seal_aligned(s: State, rounds: u32, d: &[u8], out: &mut [u8]) -> State
     requires { length out.old ≡ length d.now }
-    ensures state { result ≡ fed word64 (rounds_of word64 rounds) body_mark s 0 (was d) }
-    ensures output { out.new ≡ fed_text word64 (rounds_of word64 rounds) s 0 (was d) }
+    ensures state { result ≡ fed word64 (rounds_of word64 rounds) body_mark s 0 d.now }
+    ensures output { out.new ≡ fed_text word64 (rounds_of word64 rounds) s 0 d.now }
 {
     let at = d.len() / RATE * RATE;
     let t = encrypt_full(s, rounds, d, &mut *out);
@@ -138,8 +137,8 @@ fn seal_aligned(s: State, rounds: u32, d: &[u8], out: &mut [u8]) -> State
 // A piece of a body and its ciphertext, where the output is as long as the piece.
 fn seal_exact(s: State, rounds: u32, n: usize, d: &[u8], out: &mut [u8]) -> State
     requires { length out.old ≡ length d.now }
-    ensures state { result ≡ fed word64 (rounds_of word64 rounds) body_mark s n (was d) }
-    ensures output { out.new ≡ fed_text word64 (rounds_of word64 rounds) s n (was d) }
+    ensures state { result ≡ fed word64 (rounds_of word64 rounds) body_mark s n d.now }
+    ensures output { out.new ≡ fed_text word64 (rounds_of word64 rounds) s n d.now }
 {
     let j = n % RATE;
     let k = filling(j, d.len());
@@ -149,8 +148,8 @@ fn seal_exact(s: State, rounds: u32, n: usize, d: &[u8], out: &mut [u8]) -> Stat
 
 // A piece of a body taken in, and its ciphertext written; nothing where the output is not as long as the piece.
 pub fn seal(s: State, rounds: u32, n: usize, d: &[u8], out: &mut [u8]) -> State
-    ensures state { result ≡ cond (eqb (length (was out)) (length (was d))) (fed word64 (rounds_of word64 rounds) body_mark s n (was d)) s }
-    ensures output { out.new ≡ cond (eqb (length (was out)) (length (was d))) (fed_text word64 (rounds_of word64 rounds) s n (was d)) (was out) }
+    ensures state { result ≡ cond (eqb (length out.old) (length d.now)) (fed word64 (rounds_of word64 rounds) body_mark s n d.now) s }
+    ensures output { out.new ≡ cond (eqb (length out.old) (length d.now)) (fed_text word64 (rounds_of word64 rounds) s n d.now) out.old }
 {
     if out.len() == d.len() {
         seal_exact(s, rounds, n, d, out)
@@ -162,7 +161,7 @@ pub fn seal(s: State, rounds: u32, n: usize, d: &[u8], out: &mut [u8]) -> State
 // Ciphertext that goes on in a block: its message is taken in.
 fn open_filling(s: State, rounds: u32, j: usize, c: &[u8]) -> State
     requires { (j + length c.now ≤ rate word64) × (0 < length c.now → 0 < j) }
-    ensures { result ≡ fed word64 (rounds_of word64 rounds) body_mark s j (unfed word64 (rounds_of word64 rounds) s j (was c)) }
+    ensures { result ≡ fed word64 (rounds_of word64 rounds) body_mark s j (unfed word64 (rounds_of word64 rounds) s j c.now) }
 {
     if c.len() == 0 {
         return s;
@@ -177,7 +176,7 @@ fn open_filling(s: State, rounds: u32, j: usize, c: &[u8]) -> State
 // Ciphertext that begins a block and leaves room in it: its message is taken in.
 fn open_left(s: State, rounds: u32, left: &[u8]) -> State
     requires { length left.now < rate word64 }
-    ensures { result ≡ fed word64 (rounds_of word64 rounds) body_mark s 0 (unfed word64 (rounds_of word64 rounds) s 0 (was left)) }
+    ensures { result ≡ fed word64 (rounds_of word64 rounds) body_mark s 0 (unfed word64 (rounds_of word64 rounds) s 0 left.now) }
 {
     if left.len() == 0 {
         return s;
@@ -192,7 +191,7 @@ fn open_left(s: State, rounds: u32, left: &[u8]) -> State
 
 // Ciphertext that begins a block: the message of the full blocks and of the bytes left is taken in.
 fn open_aligned(s: State, rounds: u32, c: &[u8]) -> State
-    ensures { result ≡ fed word64 (rounds_of word64 rounds) body_mark s 0 (unfed word64 (rounds_of word64 rounds) s 0 (was c)) }
+    ensures { result ≡ fed word64 (rounds_of word64 rounds) body_mark s 0 (unfed word64 (rounds_of word64 rounds) s 0 c.now) }
 {
     let at = c.len() / RATE * RATE;
     let t = unwritten(s, rounds, BODY_MARK, OPENING, c);
@@ -201,7 +200,7 @@ fn open_aligned(s: State, rounds: u32, c: &[u8]) -> State
 
 // A piece of a body's ciphertext: its message is taken in, and nothing is written; an empty one is nothing.
 pub fn open(s: State, rounds: u32, n: usize, c: &[u8]) -> State
-    ensures { result ≡ fed word64 (rounds_of word64 rounds) body_mark s n (unfed word64 (rounds_of word64 rounds) s n (was c)) }
+    ensures { result ≡ fed word64 (rounds_of word64 rounds) body_mark s n (unfed word64 (rounds_of word64 rounds) s n c.now) }
 {
     let len = c.len();
     if len == 0 {

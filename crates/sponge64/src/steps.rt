@@ -1,6 +1,5 @@
 // A block, and what comes before it.
 ghost use Rattle.std.specs.Prelude.{◌≡◌, length};
-ghost use Rattle.norx.specs.Lent.{was};
 ghost use Rattle.norx.specs.Norx.{word64, rate, xor_block, entered};
 ghost use Rattle.rules.specs.Rules.{rounds_of};
 
@@ -11,7 +10,7 @@ use rules::w64::*;
 // A block xored into s0..s11, by the function of blocks64 that asks nothing of its callers.
 pub(crate) fn xor_block(s: State, b: &[u8]) -> State
     requires { length b.now ≡ rate word64 }
-    ensures { result ≡ xor_block word64 s (was b) }
+    ensures { result ≡ xor_block word64 s b.now }
 {
     xored(s, b)
 }
@@ -19,7 +18,7 @@ pub(crate) fn xor_block(s: State, b: &[u8]) -> State
 // One block: the mark, P, and the block xored in.
 pub(crate) fn turn(s: State, rounds: u32, m: u8, b: &[u8]) -> State
     requires { length b.now ≡ rate word64 }
-    ensures { result ≡ xor_block word64 (entered word64 (rounds_of word64 rounds) m s) (was b) }
+    ensures { result ≡ xor_block word64 (entered word64 (rounds_of word64 rounds) m s) b.now }
 {
     unwritten(s, rounds, m, SEALING, b)
 }

@@ -5,12 +5,12 @@ use denote.Triple.Clauses.{AtExit}
 use contract.Lifetimes.{Lfts}
 use borrow.Fn.World.{ArgsD, ResD}
 use borrow.Fn.Kinds.{ended_of}
-use Rattle.texts.specs.contracts.same.{signature-same}
+use Rattle.texts.specs.contracts.same.{signature as signature-same}
 use Rattle.texts.proofs.same.Kinds as kinds-same
-use Rattle.texts.proofs.same.Reads.{Post-same}
-use Rattle.texts.specs.contracts.clear.{signature-clear}
+use Rattle.texts.proofs.same.Reads.{Post as Post-same}
+use Rattle.texts.specs.contracts.clear.{signature as signature-clear}
 use Rattle.texts.proofs.clear.Kinds as kinds-clear
-use Rattle.texts.proofs.clear.Reads.{Post-clear}
+use Rattle.texts.proofs.clear.Reads.{Post as Post-clear}
 
 pub one_same : (κs : Lfts 2) (a : ArgsD signature-same κs) (r r' : ResD signature-same κs) (s s' : AtExit (ended_of 2 kinds-same.ps kinds-same.r) κs)
     → Post-same κs a r s → Post-same κs a r' s' → r ≡ r'

@@ -1,11 +1,11 @@
-// Texts compared to the end, and cleared to the end.
-ghost use Rattle.std.specs.Prelude.{◌≡◌, length, replicate};
-ghost use Rattle.norx.specs.Lent.{was};
-ghost use Rattle.norx.specs.Norx.{same as sameOf};
+// Texts copied, compared to the end, and cleared to the end.
+#![tactic(auto)]
+ghost use Rattle.std.specs.Prelude.{◌≡◌, ◌≤◌, ◌++◌, length, drop, replicate};
+ghost use Rattle.norx.specs.Norx.{same as same_of};
 
 fn same_bytes(a: &[u8], b: &[u8]) -> bool
     requires { length a.now ≡ length b.now }
-    ensures { result ≡ sameOf (was a) (was b) }
+    ensures { result ≡ same_of a.now b.now }
 {
     let mut ok = true;
     let mut i = 0;
@@ -18,7 +18,7 @@ fn same_bytes(a: &[u8], b: &[u8]) -> bool
 
 // Whether two texts are the same; where they are of one length, every byte is looked at.
 pub fn same(a: &[u8], b: &[u8]) -> bool
-    ensures { result ≡ sameOf (was a) (was b) }
+    ensures { result ≡ same_of a.now b.now }
 {
     if a.len() == b.len() {
         same_bytes(a, b)
@@ -29,11 +29,19 @@ pub fn same(a: &[u8], b: &[u8]) -> bool
 
 // Zeros in every byte.
 pub fn clear(out: &mut [u8])
-    ensures { out.new ≡ replicate (length (was out)) 0 }
+    ensures { out.new ≡ replicate (length out.old) 0 }
 {
     let mut i = 0;
     while i < out.len() {
         out[i] = 0;
         i += 1;
     }
+}
+
+// The bytes laid over the front of a text that is as long or longer.
+pub fn copy(from: &[u8], to: &mut [u8])
+    requires { length from.now ≤ length to.old }
+    ensures { to.new ≡ from.now ++ drop (length from.now) to.old }
+{
+    to[..from.len()].copy_from_slice(from);
 }

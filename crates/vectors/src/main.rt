@@ -1,4 +1,5 @@
 // Reads calls from standard input, one a line, and writes a line for each: what the library answered and what it left behind. docs/VECTORS.md has the language.
+#![tactic(auto)]
 mod arguments;
 mod call;
 mod decode;

@@ -5,24 +5,24 @@ use denote.Triple.Clauses.{AtExit}
 use contract.Lifetimes.{Lfts}
 use borrow.Fn.World.{ArgsD, ResD}
 use borrow.Fn.Kinds.{ended_of}
-use Rattle.words.specs.contracts.w32.load.{signature-w32-load}
+use Rattle.words.specs.contracts.w32.load.{signature as signature-w32-load}
 use Rattle.words.proofs.w32.load.Kinds as kinds-w32-load
-use Rattle.words.proofs.w32.load.Reads.{Post-w32-load}
-use Rattle.words.specs.contracts.w32.store.{signature-w32-store}
+use Rattle.words.proofs.w32.load.Reads.{Post as Post-w32-load}
+use Rattle.words.specs.contracts.w32.store.{signature as signature-w32-store}
 use Rattle.words.proofs.w32.store.Kinds as kinds-w32-store
-use Rattle.words.proofs.w32.store.Reads.{Post-w32-store}
-use Rattle.words.specs.contracts.w32.rotated.{signature-w32-rotated}
+use Rattle.words.proofs.w32.store.Reads.{Post as Post-w32-store}
+use Rattle.words.specs.contracts.w32.rotated.{signature as signature-w32-rotated}
 use Rattle.words.proofs.w32.rotated.Kinds as kinds-w32-rotated
-use Rattle.words.proofs.w32.rotated.Reads.{Post-w32-rotated}
-use Rattle.words.specs.contracts.w64.load.{signature-w64-load}
+use Rattle.words.proofs.w32.rotated.Reads.{Post as Post-w32-rotated}
+use Rattle.words.specs.contracts.w64.load.{signature as signature-w64-load}
 use Rattle.words.proofs.w64.load.Kinds as kinds-w64-load
-use Rattle.words.proofs.w64.load.Reads.{Post-w64-load}
-use Rattle.words.specs.contracts.w64.store.{signature-w64-store}
+use Rattle.words.proofs.w64.load.Reads.{Post as Post-w64-load}
+use Rattle.words.specs.contracts.w64.store.{signature as signature-w64-store}
 use Rattle.words.proofs.w64.store.Kinds as kinds-w64-store
-use Rattle.words.proofs.w64.store.Reads.{Post-w64-store}
-use Rattle.words.specs.contracts.w64.rotated.{signature-w64-rotated}
+use Rattle.words.proofs.w64.store.Reads.{Post as Post-w64-store}
+use Rattle.words.specs.contracts.w64.rotated.{signature as signature-w64-rotated}
 use Rattle.words.proofs.w64.rotated.Kinds as kinds-w64-rotated
-use Rattle.words.proofs.w64.rotated.Reads.{Post-w64-rotated}
+use Rattle.words.proofs.w64.rotated.Reads.{Post as Post-w64-rotated}
 
 pub one_load_32 : (κs : Lfts 0) (a : ArgsD signature-w32-load κs) (r r' : ResD signature-w32-load κs) (s s' : AtExit (ended_of 0 kinds-w32-load.ps kinds-w32-load.r) κs)
     → Post-w32-load κs a r s → Post-w32-load κs a r' s' → r ≡ r'
