@@ -1,5 +1,6 @@
 // The answers that every call gives, their numbers, the order of refusals, and the runs of P that are reported with an answer.
 #![tactic(auto)]
+
 ghost use Rattle.std.specs.Prelude.{◌≡◌};
 ghost use Rattle.answers.specs.Answers.{number_of, done_of, need_of, reported_of};
 

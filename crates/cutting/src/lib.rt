@@ -1,5 +1,6 @@
 // How a job is cut into segments, which length a segment has, and where a receiver waits: all by numbers.
 #![tactic(auto)]
+
 ghost use Rattle.std.specs.Prelude.{◌≡◌, ◌%◌};
 ghost use Rattle.norx.specs.Front.{eight_bytes};
 ghost use Rattle.cutting.specs.Cutting.{count_of, begin_of, end_of, segment_ok, sealed_ok, segment_number, take_links};

@@ -1,5 +1,6 @@
 // The core permutation at 32-bit words: what a round is. How a step goes over a row, and P over its rounds, is laid out for each width by itself.
 #![tactic(auto)]
+
 ghost use Rattle.std.specs.Prelude.{◌≡◌, ◌∷◌, [], ◌<◌};
 ghost use Rattle.norx.specs.Norx.{word32, row, word_at, g_of, on_columns, on_diagonals, f_of, constants, row_at};
 

@@ -1,5 +1,6 @@
 // Where a session of any kind and width stands, and what is answered by its numbers.
 #![tactic(auto)]
+
 ghost use Rattle.std.specs.Prelude.{◌≡◌, ◌+◌, ◌≤◌, leb, cond};
 ghost use Rattle.places.specs.Places.{rank_of, limit_of, present_of, ends_of, count_of, fresh_place, closed_place, moved as moved_of, counts_within, unreached_of, sound_of, start_answer, piece_answer, close_answer, seal_exact};
 

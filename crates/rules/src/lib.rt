@@ -1,5 +1,6 @@
 // The numbers that rule every call, each of them once; w32 and w64 have those of a width, calls has what they decide, and runs how much work a call is.
 #![tactic(auto)]
+
 ghost use Rattle.std.specs.Prelude.{◌≡◌};
 ghost use Rattle.rules.specs.Rules.{rounds_ok, lengths_ok};
 

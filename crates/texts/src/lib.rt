@@ -1,5 +1,6 @@
 // Texts copied, compared to the end, and cleared to the end.
 #![tactic(auto)]
+
 ghost use Rattle.std.specs.Prelude.{◌≡◌, ◌≤◌, ◌++◌, length, drop, replicate};
 ghost use Rattle.norx.specs.Norx.{same as same_of};
 

@@ -1,5 +1,4 @@
 -- `rules::calls::is_sum`: a sum, by a difference that does not wrap.
--- Assumes nothing.
 use mathlib.Core.Path.{◌≡◌, sym, ◌∙◌}
 use mathlib.Core.Logic.{⊎_elim}
 use Prim.Native.Nat.{ℕ, ◌+◌, ◌-◌, ◌≤◌}
@@ -7,19 +6,15 @@ use native.Mathlib.Omega.{arith}
 use borrow.Author.Tests.{eqb-true, eqb-false, eq-eqb, ne_eqb}
 use lib.Dec.{eqb}
 use Rattle.answers.proofs.Tests.{either}
-use Rattle.rules.proofs.calls.is_sum.Statement.{statement}
-use Rattle.rules.proofs.calls.is_sum.Tie as tie
+use Rattle.rules.proofs.calls.is_sum.Goals as goal
 
 sum_by_difference : (a b c : ℕ) → c ≤ a → eqb (a - c) b ≡ eqb a (b + c)
 sum_by_difference a b c h =
     ⊎_elim (λ e. let p = eqb-true (a - c) b e in e ∙ sym (eq-eqb a (b + c) (omega arith)))
     (λ e. e ∙ sym (ne_eqb a (b + c) (λ q. eqb-false (a - c) b e (omega arith)))) (either (eqb (a - c) b))
 
-returns : tie.Need-returns
-returns c = let x = c.before.args in sym (ne_eqb x.whole (x.first + x.second) (λ e. omega arith))
+pub returns-then-whole-second : goal.returns-then-whole-second
+returns-then-whole-second c = let x = c.args in sym (ne_eqb x.whole (x.first + x.second) (λ e. omega arith))
 
-returns-2 : tie.Need-returns-2
-returns-2 c = let x = c.before.args in sum_by_difference x.whole x.first x.second c.if1.false
-
-pub is-sum-spec : {M : Type 1} → statement M
-is-sum-spec = tie.close (tie.spec returns returns-2)
+pub returns : goal.returns
+returns c = let x = c.args in sum_by_difference x.whole x.first x.second c.if-whole-second.false
