@@ -1,0 +1,15 @@
+-- `words::w64::rotated` is the rotation, by the laws at this width.
+use Prim.Native.Nat.{◌-◌, ◌%◌}
+use native.Mathlib.Omega.{arith}
+use borrow.Author.Rules.{rules}
+use Rattle.norx.specs.Norx.{word64}
+use Rattle.norx.proofs.Rotate.{by_shifts, by_none}
+use Rattle.words.proofs.w64.rotated.Goals as goal
+
+pub returns-then-r-eq0 : goal.returns-then-r-eq0
+returns-then-r-eq0 c = let x = c.args in by_none word64 (x.right % 64) x.x c.if-r-eq0.true
+
+pub returns : goal.returns
+returns c =
+    let x = c.args in
+    by_shifts word64 (x.right % 64) (64 - x.right % 64) x.x (omega arith) c.ranges.x.fits
