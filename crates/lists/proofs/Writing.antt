@@ -11,7 +11,7 @@ use native.Mathlib.Numerals.{add-one}
 use borrow.Author.Tests.{le-leb, lt-leb, leb-true, eqb-true, eq-eqb}
 use lib.Dec.{leb, eqb, lit≤}
 use lib.ListN.{length, set, take, drop, length-append, length-drop, drop_of_length-le}
-use lib.Seq.{take_all, take-length, take_at, drop-drop}
+use lib.Seq.{take_all, take_at, drop-drop}
 use Rattle.answers.specs.declared.Answer.{Answer}
 use Rattle.answers.specs.declared.Answer.TheVariants.{Done, OverLimit, OutputLength}
 use Rattle.answers.specs.Answers.{done_of, need_of}
@@ -71,14 +71,14 @@ full_ending n e = sym full_text ∙ ap (λ (k : ℕ). num_text k ++ (newline ∷
 
 -- a copied text, as the code cuts the bytes that it is copied to
 pub text_laid : (l x : List ℕ) (at : ℕ) {k : ℕ} → at + length x ≤ length l → k ≡ length l - at
-    → take at l ++ ((take (length x) x ++ drop (length x) (take k (drop at l))) ++ drop k (drop at l)) ≡ laid l at x
+    → take at l ++ ((x ++ drop (length x) (take k (drop at l))) ++ drop k (drop at l)) ≡ laid l at x
 unfolding laid
 text_laid l x at h e =
     let rest : List ℕ = drop at l in
     let all : take (length l - at) (drop at l) ≡ drop at l = take_all (length l - at) (drop at l) (omega (arith, length-drop at l)) in
     let none : drop (length l - at) (drop at l) ≡ [] = drop_of_length-le (drop at l) {i = length l - at} (omega (arith, length-drop at l)) in
-    ap (λ (m : ℕ). take at l ++ ((take (length x) x ++ drop (length x) (take m (drop at l))) ++ drop m (drop at l))) e
-    ∙ (λ i. take at l ++ ((take-length x i ++ drop (length x) (all i)) ++ none i))
+    ap (λ (m : ℕ). take at l ++ ((x ++ drop (length x) (take m (drop at l))) ++ drop m (drop at l))) e
+    ∙ (λ i. take at l ++ ((x ++ drop (length x) (all i)) ++ none i))
     ∙ ap (λ (y : List ℕ). take at l ++ y) (append-nil (x ++ drop (length x) (drop at l)) ∙ ap (λ (y : List ℕ). x ++ y) (drop-drop (length x) at l))
 
 -- a front has room in 42 bytes, and is read back from where it was laid

@@ -7,7 +7,6 @@ use Prim.Native.Nat.{ℕ, ◌+◌, ◌-◌, ◌*◌, ◌%◌, ◌<◌, ◌≤◌
 use native.Mathlib.Nat.{mod-eq_of_lt, mul-mod_left, pos_of_ne-zero, sub-zero, le_of_lt, le_refl}
 use native.Mathlib.Omega.{arith}
 use lib.ListN.{length, take, drop, drop_of_length-le, length-drop}
-use lib.Seq.{take-length}
 use Rattle.norx.specs.Norx.{Width, rate, State, xor_block, entered, padded, after_blocks}
 use Rattle.norx.specs.Stream.{placed, fed, ended}
 use Rattle.norx.proofs.Bytes.{Bytes, zeros, length-zeros}
@@ -20,13 +19,13 @@ use Rattle.norx.proofs.Stream.{entered_start, entered_within, fed_some, fed_left
 use Rattle.norx.proofs.Pieces.{fed_mod, fed_cut}
 
 -- bytes copied to place j of zeros
-pub placed_of : (R j : ℕ) (d : List ℕ) {y : List ℕ} → j + length d ≤ R → y ≡ take (length d) d ++ drop (length d) (take (R - j) (drop j (zeros R)))
+pub placed_of : (R j : ℕ) (d : List ℕ) {y : List ℕ} → j + length d ≤ R → y ≡ d ++ drop (length d) (take (R - j) (drop j (zeros R)))
     → put (zeros R) j y (R - j) ≡ placed j d ++ zeros (R - j - length d)
 placed_of R j d h e =
     let k : ℕ = R - j in
     let z : drop j (zeros R) ≡ zeros k = drop-replicate j R 0 in
-    let y' : take (length d) d ++ drop (length d) (take k (drop j (zeros R))) ≡ d ++ zeros (k - length d) =
-    ap₂ (λ (a b : List ℕ). a ++ b) (take-length d)
+    let y' : d ++ drop (length d) (take k (drop j (zeros R))) ≡ d ++ zeros (k - length d) =
+    ap (λ (b : List ℕ). d ++ b)
     (ap (λ (t : List ℕ). drop (length d) (take k t)) z ∙ ap (drop (length d)) (take-replicate k k 0 (le_refl k)) ∙ drop-replicate (length d) k 0) in
     let rest : drop k (drop j (zeros R)) ≡ [] = ap (drop k) z ∙ drop_of_length-le (zeros k) {i = k} (omega (arith, length-zeros k)) in
     (λ i. take-replicate j R 0 (omega arith) i ++ ((e ∙ y') i ++ rest i))

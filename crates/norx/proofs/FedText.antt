@@ -45,7 +45,7 @@ module _ (w : Width) (l : ℕ) where
 
   -- as code shows them: copied from place j of the rate's bytes to an output o
   pub written_rate : (t : State) (j : ℕ) (o : List ℕ) {r y : List ℕ} → j + length o ≤ rate w → r ≡ rate_of w t
-      → y ≡ take (length (take (j + length o - j) (drop j r))) (take (j + length o - j) (drop j r)) ++ drop (length (take (j + length o - j) (drop j r))) o
+      → y ≡ take (j + length o - j) (drop j r) ++ drop (length (take (j + length o - j) (drop j r))) o
       → y ≡ take (length o) (drop j (rate_of w t))
   written_rate t j o {r} {y} h hr hy =
       let n : ℕ = length o in

@@ -7,7 +7,7 @@ use native.Mathlib.Nat.{le_refl}
 use native.Mathlib.Omega.{arith}
 use lib.Bits.{bit_xor, xor_zero_r}
 use lib.ListN.{length, get_or, take, drop, length-append, length-set, replicate-append-replicate}
-use lib.Seq.{take-nil, take-length, get_or-drop, take-set-le, take_at}
+use lib.Seq.{take-nil, get_or-drop, take-set-le, take_at}
 use Rattle.norx.specs.Norx.{Width, word_bytes, row_bytes, rate, word_of, run, xors, State, word_at, row_at, row_of, xor_row, xor_block, rate_of, xor_at, padded}
 use Rattle.norx.specs.Stream.{placed}
 use Rattle.norx.proofs.Xor.{xor_assoc, xors-nil, take-xors, run_xors, xors-zeros, xor_at-xors}
@@ -129,8 +129,8 @@ take-padded R l h =
     take-set-le (length l) _ (R - 1) _ le ∙ take-set-le (length l) _ (length l) _ (le_refl (length l)) ∙ take_at l (zeros (R - length l)) (length l) refl
 
 -- as code pads: the bytes copied into zeros, and the two xored in
-pub filled_of : (R : ℕ) (l : List ℕ) {b : List ℕ} → b ≡ take (length l) l ++ drop (length l) (zeros R) → b ≡ l ++ zeros (R - length l)
-filled_of R l e = e ∙ ap₂ (λ (x y : List ℕ). x ++ y) (take-length l) (drop-replicate (length l) R 0)
+pub filled_of : (R : ℕ) (l : List ℕ) {b : List ℕ} → b ≡ l ++ drop (length l) (zeros R) → b ≡ l ++ zeros (R - length l)
+filled_of R l e = e ∙ ap (λ (y : List ℕ). l ++ y) (drop-replicate (length l) R 0)
 
 pub padded_of : (R : ℕ) (l : List ℕ) {b : List ℕ} {k : ℕ} → b ≡ l ++ zeros (R - length l) → k ≡ length l → xor_at (xor_at b k 1) (R - 1) 128 ≡ padded R l
 unfolding padded

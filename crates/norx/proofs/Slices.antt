@@ -7,7 +7,7 @@ use native.Mathlib.Nat.{zero-sub, sub-zero, suc-sub-suc, le_of_eq, div-add-mod',
 use native.Mathlib.Omega.{arith}
 use lib.ListN.{length, take, drop, replicate, length-append, length-drop, drop_of_length-le}
 use Rattle.norx.specs.Turns.{put}
-use lib.Seq.{take_at, drop_at, drop-drop, take_all, take-length}
+use lib.Seq.{take_at, drop_at, drop-drop, take_all}
 
 -- `&l[a..a + n]`
 pub span : (a n : ℕ) → a + n - a ≡ n
@@ -28,8 +28,8 @@ pub list4 : {A : Type 0} {a b c d a' b' c' d' : A} → a ≡ a' → b ≡ b' →
 list4 p q r s = λ k. p k ∷ q k ∷ r k ∷ s k ∷ []
 
 -- all of a slice written by a copy
-pub copied : (s d : List ℕ) → length s ≡ length d → take (length s) s ++ drop (length s) d ≡ s
-copied s d h = ap₂ (λ (x y : List ℕ). x ++ y) (take-length s) (drop_of_length-le d {i = length s} (omega arith)) ∙ append-nil s
+pub copied : (s d : List ℕ) → length s ≡ length d → s ++ drop (length s) d ≡ s
+copied s d h = ap (λ (y : List ℕ). s ++ y) (drop_of_length-le d {i = length s} (omega arith)) ∙ append-nil s
 
 pub drop-replicate : (n R a : ℕ) → drop n (replicate R a) ≡ replicate (R - n) a
 drop-replicate zero R a = rw sub-zero

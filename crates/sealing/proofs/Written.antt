@@ -25,7 +25,7 @@ use Rattle.sealing.specs.Bodies.{tag_from, sealed_from, opened_from}
 
 -- ciphertext and then tag, each at its place of the output o
 pub laid : (o c g : List ℕ) {y z e : List ℕ} → length o ≡ length c + length g → y ≡ c → e ≡ g
-    → z ≡ take (length e) e ++ drop (length e) (take (length (y ++ drop (length c - 0) o) - length c) (drop (length c) (y ++ drop (length c - 0) o)))
+    → z ≡ e ++ drop (length e) (take (length (y ++ drop (length c - 0) o) - length c) (drop (length c) (y ++ drop (length c - 0) o)))
     → put (y ++ drop (length c - 0) o) (length c) z (length (y ++ drop (length c - 0) o) - length c) ≡ c ++ g
 laid o c g {y} {z} {e} h hy he hz =
     let q : List ℕ = drop (length c - 0) o in
@@ -33,8 +33,8 @@ laid o c g {y} {z} {e} h hy he hz =
     let le : length (c ++ q) - length c ≡ length q = omega (arith, length-append c q) in
     let rest : take (length (c ++ q) - length c) (drop (length c) (c ++ q)) ≡ q = tail (length c) (c ++ q) ∙ drop_at c q (length c) refl in
     let is : z ≡ g =
-    hz ∙ (λ k. take (length (he k)) (he k) ++ drop (length (he k)) (take (length (hy k ++ q) - length c) (drop (length c) (hy k ++ q))))
-    ∙ ap (λ (t : List ℕ). take (length g) g ++ drop (length g) t) rest ∙ copied g q (sym lq) in
+    hz ∙ (λ k. he k ++ drop (length (he k)) (take (length (hy k ++ q) - length c) (drop (length c) (hy k ++ q))))
+    ∙ ap (λ (t : List ℕ). g ++ drop (length g) t) rest ∙ copied g q (sym lq) in
     (λ k. put (hy k ++ q) (length c) (is k) (length (hy k ++ q) - length c))
     ∙ put_next c q g (length c) (length (c ++ q) - length c) refl
     ∙ ap (λ (t : List ℕ). (c ++ g) ++ t) (ap (λ (n : ℕ). drop n q) le ∙ drop-length q) ∙ append-nil (c ++ g)
@@ -60,7 +60,7 @@ module _ (w : Width) (l : ℕ) (k : List ℕ) (s : State) (text trailer : List �
       → u ≡ cond (eqb (length (take (length text - 0) o)) (length text)) (after_part w l body_mark s text) s
       → y ≡ cond (eqb (length (take (length text - 0) o)) (length text)) (ciphertext w l s text) (take (length text - 0) o)
       → v ≡ after_part w l trailer_mark u trailer → e ≡ tag_of w l (tag_bits w) k v
-      → z ≡ take (length e) e ++ drop (length e) (take (length (y ++ drop (length text - 0) o) - length text) (drop (length text) (y ++ drop (length text - 0) o)))
+      → z ≡ e ++ drop (length e) (take (length (y ++ drop (length text - 0) o) - length text) (drop (length text) (y ++ drop (length text - 0) o)))
       → put (y ++ drop (length text - 0) o) (length text) z (length (y ++ drop (length text - 0) o) - length text) ≡ sealed_from w l (tag_bits w) k s text trailer
   unfolding sealed_from tag_from
   sealed_of o {y} {z} {e} {u} {v} ho hu hy hv he hz =
@@ -74,7 +74,7 @@ module _ (w : Width) (l : ℕ) (k : List ℕ) (s : State) (text trailer : List �
       let le : length (tag_from w l (tag_bits w) k s text trailer) ≡ tag_bytes w = length-tag_from text in
       ap (λ (n : ℕ). put (y ++ drop (n - 0) o) n z (length (y ++ drop (n - 0) o) - n)) (sym lc)
       ∙ laid o c (tag_from w l (tag_bits w) k s text trailer) (omega arith) y' e'
-      (hz ∙ ap (λ (n : ℕ). take (length e) e ++ drop (length e) (take (length (y ++ drop (n - 0) o) - n) (drop n (y ++ drop (n - 0) o)))) (sym lc))
+      (hz ∙ ap (λ (n : ℕ). e ++ drop (length e) (take (length (y ++ drop (n - 0) o) - n) (drop n (y ++ drop (n - 0) o)))) (sym lc))
 
   -- the message is what is written, and the comparison decides
   opened_of : (o : List ℕ) {c y e : List ℕ} {u v : State} {b : Bool} → length text ≡ length o + tag_bytes w → c ≡ take (length o - 0) text

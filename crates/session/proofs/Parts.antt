@@ -73,7 +73,7 @@ module _ (w : Width) (p : Place) (part : Part) (x out : List ℕ) (s : State) {r
       ∙ ap (λ (k : Part). written_at w p sealing k x s out) (sym e)
 
 -- a text copied over one of its length
-pub copied_over : (e o : List ℕ) {v : List ℕ} → length e ≡ length o → v ≡ take (length e) e ++ drop (length e) o → v ≡ e
+pub copied_over : (e o : List ℕ) {v : List ℕ} → length e ≡ length o → v ≡ e ++ drop (length e) o → v ≡ e
 copied_over e o h ev = ev ∙ copied e o h
 
 -- a tag is as long as the buffer that was asked for

@@ -1,0 +1,22 @@
+-- `blocks32::turns::open_at`: the block in its place of the output, where it is asked for.
+use borrow.Author.Rules.{rules}
+use mathlib.Core.Path.{refl}
+use native.Mathlib.Omega.{arith}
+use Rattle.norx.specs.Norx.{word32, rate}
+use Rattle.norx.specs.Turns.{put}
+use Rattle.norx.proofs.Slices.{span}
+use Rattle.blocks32.proofs.turns.open_at.Goals as goal
+
+pub overflow_add-at : goal.overflow_add-at
+overflow_add-at c = omega (arith, c.requires.1 c.if-writing.true)
+
+pub slice_bounds-open_block-end : goal.slice_bounds-open_block-end
+slice_bounds-open_block-end c = omega (arith, c.requires.1 c.if-writing.true)
+
+pub returns-then-writing : goal.returns-then-writing
+returns-then-writing c =
+    let x = c.args in
+    record { state = c.open_block.ensures.state; output = rw c.if-writing.true (λ k. put x.out.now x.at (c.open_block.ensures.output k) (span x.at (rate word32) k)) }
+
+pub returns-else-writing : goal.returns-else-writing
+returns-else-writing c = record { state = c.replaced.ensures; output = rw c.if-writing.false refl }

@@ -1,0 +1,22 @@
+-- `blocks64::ends::start`: the rows laid out, P, and the key.
+use borrow.Author.Rules.{rules}
+use mathlib.Core.Path.{◌≡◌, refl, ap, ◌∙◌}
+use Rattle.norx.specs.Norx.{word64, bits, tag_bits, p_of, State, row, rows, row_at, xor_row, constants, entered, keyed, start}
+use Rattle.norx.proofs.Slices.{list4}
+use Rattle.norx.proofs.Turns.{unmarked}
+use Rattle.rules.specs.Rules.{rounds_of}
+use Rattle.blocks64.proofs.ends.start.Goals as goal
+
+pub returns : goal.returns
+unfolding start entered
+returns c =
+    let x = c.args in
+    let upper = c.upper_constants-u in
+    let u = upper.ensures in
+    let l = rounds_of word64 x.rounds in
+    let asked : c.rounds_of.result ≡ l = c.rounds_of.ensures in
+    let r3 : c.xor_row-r3.result ≡ xor_row (row_at (constants word64) 3) (row (bits word64) l 1 (tag_bits word64)) =
+    c.xor_row-r3.ensures ∙ (λ k. xor_row (row_at (u k) 1) (row (bits word64) (asked k) 1 (tag_bits word64))) in
+    let e : c.enter_keyed.result ≡ keyed x.k (entered word64 l 0 (rows x.n x.k (row_at upper.result 0) c.xor_row-r3.result)) = c.enter_keyed.ensures in
+    e
+    ∙ ap (λ (s : State). keyed x.k (p_of word64 l s)) (unmarked _ ∙ list4 refl refl (ap (λ (s : State). row_at s 0) u) r3)

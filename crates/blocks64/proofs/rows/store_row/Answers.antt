@@ -1,0 +1,12 @@
+-- `blocks64::rows::store_row` writes its four words, one quarter each.
+use borrow.Author.Rules.{rules}
+use Rattle.norx.specs.Norx.{word64, word_bytes, bytes_of_row}
+use Rattle.norx.proofs.Words.{length-bytes_of}
+use Rattle.norx.proofs.Slices.{quarters_of}
+use Rattle.blocks64.proofs.rows.store_row.Goals as goal
+
+pub returns : goal.returns
+unfolding bytes_of_row
+returns c =
+    quarters_of (word_bytes word64) c.args.b.now c.store.ensures c.store-2.ensures c.store-3.ensures c.store-4.ensures
+    (length-bytes_of (word_bytes word64) _) (length-bytes_of (word_bytes word64) _) (length-bytes_of (word_bytes word64) _) c.requires

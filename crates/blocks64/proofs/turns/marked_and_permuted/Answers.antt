@@ -1,0 +1,12 @@
+-- `blocks64::turns::marked_and_permuted` is P after the mark.
+use borrow.Author.Rules.{rules}
+use mathlib.Core.Path.{ap, ◌∙◌}
+use Rattle.norx.specs.Norx.{word64, p_of, entered}
+use Rattle.rules.specs.Rules.{rounds_of}
+use Rattle.blocks64.proofs.turns.marked_and_permuted.Goals as goal
+
+pub returns : goal.returns
+unfolding entered
+returns c =
+    let x = c.args in
+    c.permute.ensures ∙ ap (p_of word64 (rounds_of word64 x.rounds)) c.marked.ensures
