@@ -18,7 +18,7 @@ pub mod w64;
 // Lays one text behind the other into an output as long as both.
 pub(crate) fn join(first: &[u8], second: &[u8], out: &mut [u8])
     requires { length out.old ≡ length first.now + length second.now }
-    ensures { out.new ≡ was first ++ was second }
+    ensures { out.new ≡ first.now ++ second.now }
 {
     let n = first.len();
     texts::copy(first, &mut out[0..n]);

@@ -114,7 +114,7 @@ impl Receiver {
     // Holds copies of key and nonce.
     fn fresh(key: &[u8], nonce: &[u8], terms: Terms) -> Receiver
         requires { (length key.now ≡ row_bytes word32) × (length nonce.now + 8 ≡ row_bytes word32) }
-        ensures { result ≡ made32 (record { key = was key; nonce = was nonce; terms = terms; waiting = waiting_first }) }
+        ensures { result ≡ made32 (record { key = key.now; nonce = nonce.now; terms = terms; waiting = waiting_first }) }
     {
         let mut k = [0u8; ROW];
         texts::copy(key, &mut k);

@@ -80,7 +80,7 @@ fn all_digits(word: &[u8]) -> bool
 // Lays the n bytes of a word of digits to the front of a buffer.
 fn lay(word: &[u8], n: usize, out: &mut [u8])
     requires { AllDigits word.now × (length word.now ≡ 2 * n) × (n ≤ length out.old) }
-    ensures bytes { hex_text (take n out.new) ≡ was word }
+    ensures bytes { hex_text (take n out.new) ≡ word.now }
     ensures rest { drop n out.new ≡ drop n out.old }
 {
     let mut i = 0;

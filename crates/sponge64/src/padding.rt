@@ -7,7 +7,7 @@ use rules::w64::*;
 // The left bytes of a part in a block of zeros. R and its last byte stand here as numbers, the form that the requirements name.
 pub(crate) fn filled(left: &[u8]) -> [u8; RATE]
     requires { length left.now ≤ rate word64 }
-    ensures { result ≡ was left ++ replicate (rate word64 - length left.now) 0 }
+    ensures { result ≡ left.now ++ replicate (rate word64 - length left.now) 0 }
 {
     let mut b = [0u8; 96];
     texts::copy(left, &mut b);

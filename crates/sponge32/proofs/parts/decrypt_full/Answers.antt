@@ -1,0 +1,23 @@
+-- `sponge32::parts::decrypt_full`: the message of every full block written, and taken in.
+use borrow.Author.Rules.{rules}
+use mathlib.Core.Path.{◌∙◌}
+use Prim.Native.Nat.{◌*◌, ◌/◌}
+use lib.ListN.{length, drop}
+use Rattle.norx.specs.Norx.{word32, rate, message_blocks}
+use Rattle.norx.proofs.Slices.{blocks_le}
+use Rattle.norx.proofs.Blocks.{rate_pos}
+use Rattle.norx.proofs.Turns.{written, turns_opened, shown_opened}
+use Rattle.rules.specs.Rules.{rounds_of}
+use Rattle.sponge32.proofs.parts.decrypt_full.Goals as goal
+
+pub returns : goal.returns
+returns c =
+    let x = c.args in
+    let d = x.c.now in
+    let o = x.out.now in
+    let n = length d / rate word32 in
+    let le = blocks_le (length d) (rate word32) (rate_pos word32) in record {
+      state = c.turns.ensures.state ∙ turns_opened word32 (rounds_of word32 x.rounds) x.s d n le;
+      output = written (length o) (length d) _ (message_blocks word32 (rounds_of word32 x.rounds) x.s d n) (drop (n * rate word32) o) o c.requires c.turns.ensures.output
+          (shown_opened word32 (rounds_of word32 x.rounds) x.s d (λ i. (c.type_inv.c i).fits) n le);
+    }

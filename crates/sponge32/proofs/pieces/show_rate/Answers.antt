@@ -1,0 +1,10 @@
+-- `sponge32::pieces::show_rate` copies a part of the rate.
+use borrow.Author.Rules.{rules}
+use Rattle.norx.specs.Norx.{word32, rate}
+use Rattle.norx.proofs.FedText.{written_rate}
+use Rattle.sponge32.proofs.pieces.show_rate.Goals as goal
+
+pub returns : goal.returns
+returns c =
+    let x = c.args in
+    written_rate word32 0 x.t x.j x.out.now c.requires c.rate_bytes-r.ensures c.copy.ensures
