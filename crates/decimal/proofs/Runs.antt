@@ -38,19 +38,11 @@ nothing_digit : (b : ℕ) → NumberIs (b ∷ []) Nothing → is_digit b ≡ fal
 nothing_digit b none = no_digit b (λ h. none (b - 48) (omega arith) (one_is b h.0 h.1))
 
 -- how a test of a byte came out
-pub tested : {d r : Bool} → r ≡ d → not r ≡ false → d ≡ true
-tested {d} {r} e f = sym e ∙ held r f
-  where
-    held : (r : Bool) → not r ≡ false → r ≡ true
-    held true h = refl
-    held false h = sym h
+pub tested : {d r : Bool} → r ≡ d → r ≡ true → d ≡ true
+tested e f = sym e ∙ f
 
-pub tested_not : {d r : Bool} → r ≡ d → not r ≡ true → d ≡ false
-tested_not {d} {r} e f = sym e ∙ held r f
-  where
-    held : (r : Bool) → not r ≡ true → r ≡ false
-    held true h = sym h
-    held false h = refl
+pub tested_not : {d r : Bool} → r ≡ d → r ≡ false → d ≡ false
+tested_not e f = sym e ∙ f
 
 -- ---- The digits that a text begins with
 

@@ -1,5 +1,6 @@
 // Numbers in text: decimal, without leading zeros.
 #![tactic(auto)]
+
 ghost use Rattle.std.specs.Prelude.{◌≡◌, [], ◌∷◌, ◌++◌, ◌+◌, ◌≤◌, ◌<◌, length, get_or};
 ghost use Rattle.decimal.specs.Decimal.{num_text, is_digit, NumberIs, FoundIs};
 ghost use Rattle.decimal.specs.Laid.{laid, put_at, put_end};

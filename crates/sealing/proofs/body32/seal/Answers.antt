@@ -1,0 +1,37 @@
+-- `sealing::body32::seal`: what its calls leave is ciphertext and tag, whether there is a trailer or not.
+use mathlib.Core.Path.{◌≡◌, sym, ◌∙◌}
+use Prim.Native.Nat.{◌+◌}
+use borrow.Author.Rules.{rules}
+use borrow.Author.Tests.{eq-eqb, ne_eqb}
+use lib.ListN.{length}
+use Rattle.norx.specs.Norx.{word32, trailer_mark}
+use Rattle.norx.proofs.Blocks.{part_none}
+use Rattle.answers.proofs.Tests.{cond_true, cond_false}
+use Rattle.rules.specs.Rules.{rounds_of, tag_bytes}
+use Rattle.sealing.proofs.Written.{sealed_of}
+use Rattle.sealing.proofs.body32.seal.Goals as goal
+
+-- an empty trailer adds nothing
+pub returns-then-trailer-eq0 : goal.returns-then-trailer-eq0
+returns-then-trailer-eq0 c =
+    let x = c.args in
+    let l = rounds_of word32 x.rounds in
+    let long : length x.out.now ≡ length x.body.now + tag_bytes word32 = c.if-out-n.true in
+    sealed_of word32 l x.key x.s x.body.now x.trailer.now x.out.now long
+    c.encrypt-t.ensures.state c.encrypt-t.ensures.output (part_none word32 l trailer_mark c.encrypt-t.result x.trailer.now c.if-trailer-eq0.true)
+    c.tag-own.ensures c.copy.ensures
+    ∙ sym (cond_true _ _ _ (eq-eqb (length x.out.now) (length x.body.now + tag_bytes word32) long))
+
+pub returns-else-trailer-eq0 : goal.returns-else-trailer-eq0
+returns-else-trailer-eq0 c =
+    let x = c.args in
+    let long : length x.out.now ≡ length x.body.now + tag_bytes word32 = c.if-out-n.true in
+    sealed_of word32 (rounds_of word32 x.rounds) x.key x.s x.body.now x.trailer.now x.out.now long
+    c.encrypt-t.ensures.state c.encrypt-t.ensures.output c.absorb.ensures c.tag-own-else-trailer-eq0.ensures c.copy-else-trailer-eq0.ensures
+    ∙ sym (cond_true _ _ _ (eq-eqb (length x.out.now) (length x.body.now + tag_bytes word32) long))
+
+-- nothing is written only where the lengths differ
+pub returns-else-out-n : goal.returns-else-out-n
+returns-else-out-n c =
+    let x = c.args in
+    sym (cond_false _ _ _ (ne_eqb (length x.out.now) (length x.body.now + tag_bytes word32) c.if-out-n.false))

@@ -1,0 +1,35 @@
+-- `sealing::body64::open`: what its calls leave is the message where the tags are the same, and else zeros, whether there is a trailer or not.
+use mathlib.Core.Path.{◌≡◌, refl, sym}
+use Prim.Native.Nat.{◌+◌}
+use borrow.Author.Rules.{rules}
+use borrow.Author.Tests.{ne_eqb}
+use lib.ListN.{length}
+use Rattle.norx.specs.Norx.{word64, trailer_mark}
+use Rattle.norx.proofs.Blocks.{part_none}
+use Rattle.answers.proofs.Tests.{cond_false}
+use Rattle.rules.specs.Rules.{rounds_of, tag_bytes}
+use Rattle.sealing.proofs.Written.{opened_by}
+use Rattle.sealing.proofs.body64.open.Goals as goal
+
+-- nothing is done only where the lengths differ
+pub returns-then-sealed-n : goal.returns-then-sealed-n
+returns-then-sealed-n c =
+    let x = c.args in
+    let differ = ne_eqb (length x.sealed.now) (length x.out.now + tag_bytes word64) c.if-sealed-n.true in
+    record { answer = sym (cond_false _ _ _ differ); output = sym (cond_false _ _ _ differ) }
+
+-- an empty trailer adds nothing
+pub returns-then-trailer-eq0 : goal.returns-then-trailer-eq0
+returns-then-trailer-eq0 c =
+    let x = c.args in
+    let l = rounds_of word64 x.rounds in
+    opened_by word64 l x.key x.s x.sealed.now x.trailer.now x.out.now c.if-sealed-n.false refl
+    c.decrypt-u.ensures.state c.decrypt-u.ensures.output c.decrypt-u.auto.1.1.1.0
+    (part_none word64 l trailer_mark c.decrypt-u.result x.trailer.now c.if-trailer-eq0.true) c.tag.ensures c.judged.ensures.answer c.judged.ensures.output
+
+pub returns : goal.returns
+returns c =
+    let x = c.args in
+    opened_by word64 (rounds_of word64 x.rounds) x.key x.s x.sealed.now x.trailer.now x.out.now c.if-sealed-n.false refl
+    c.decrypt-u.ensures.state c.decrypt-u.ensures.output c.decrypt-u.auto.1.1.1.0
+    c.absorb.ensures c.tag-own.ensures c.judged-2.ensures.answer c.judged-2.ensures.output

@@ -1,0 +1,11 @@
+-- `sealing::w64::before_body`: the start, and the header.
+use borrow.Author.Rules.{rules}
+use mathlib.Core.Path.{ap, ◌∙◌}
+use Rattle.norx.specs.Norx.{word64, State, header_mark, after_part}
+use Rattle.rules.specs.Rules.{rounds_of}
+use Rattle.sealing.proofs.w64.before_body.Goals as goal
+
+pub returns : goal.returns
+returns c =
+    let x = c.args in
+    c.absorb.ensures ∙ ap (λ (s : State). after_part word64 (rounds_of word64 x.rounds) header_mark s x.header.now) c.start.ensures
