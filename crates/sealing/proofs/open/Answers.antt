@@ -11,7 +11,7 @@ returns-then-width-eq32 c =
     let x = c.args in
     let e = width_32 x.width c.if-width-eq32.true in
     let ensured = c.open.ensures in
-    (rw e ensured.0, (rw e ensured.1.0, (rw e ensured.1.1.0, opens_at x.width x.rounds x.key.now x.nonce.now x.header.now x.sealed.now x.trailer.now x.out.now word32 c.if-width-eq32.true ensured.0 ensured.1.1.1)))
+    record { answer = rw e ensured.answer; runs = rw e ensured.runs; output = rw e ensured.output; promise = opens_at x.width x.rounds x.key.now x.nonce.now x.header.now x.sealed.now x.trailer.now x.out.now word32 c.if-width-eq32.true ensured.answer ensured.promise }
 
 pub returns-then-width-eq64 : goal.returns-then-width-eq64
 unfolding open_answer_at open_runs_at open_out_at
@@ -19,11 +19,11 @@ returns-then-width-eq64 c =
     let x = c.args in
     let e = width_64 x.width c.if-width-eq32.false c.if-width-eq64.true in
     let ensured = c.open-then-width-eq64.ensures in
-    (rw e ensured.0, (rw e ensured.1.0, (rw e ensured.1.1.0, opens_at x.width x.rounds x.key.now x.nonce.now x.header.now x.sealed.now x.trailer.now x.out.now word64 c.if-width-eq64.true ensured.0 ensured.1.1.1)))
+    record { answer = rw e ensured.answer; runs = rw e ensured.runs; output = rw e ensured.output; promise = opens_at x.width x.rounds x.key.now x.nonce.now x.header.now x.sealed.now x.trailer.now x.out.now word64 c.if-width-eq64.true ensured.answer ensured.promise }
 
 pub returns : goal.returns
 unfolding open_answer_at open_runs_at open_out_at
 returns c =
     let x = c.args in
     let e = width_none x.width c.if-width-eq32.false c.if-width-eq64.false in
-    (rw e, (rw e, (rw e, at_none _ x.width x.out.now c.if-width-eq32.false c.if-width-eq64.false)))
+    record { answer = rw e; runs = rw e; output = rw e; promise = at_none _ x.width x.out.now c.if-width-eq32.false c.if-width-eq64.false }

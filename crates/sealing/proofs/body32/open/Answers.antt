@@ -23,13 +23,15 @@ pub returns-then-trailer-eq0 : goal.returns-then-trailer-eq0
 returns-then-trailer-eq0 c =
     let x = c.args in
     let l = rounds_of word32 x.rounds in
-    opened_by word32 l x.key x.s x.sealed.now x.trailer.now x.out.now c.if-sealed-n.false refl
-    c.decrypt-u.ensures.state c.decrypt-u.ensures.output c.decrypt-u.auto.1.1.1.0
-    (part_none word32 l trailer_mark c.decrypt-u.result x.trailer.now c.if-trailer-eq0.true) c.tag.ensures c.judged.ensures.answer c.judged.ensures.output
+    let all = opened_by word32 l x.key x.s x.sealed.now x.trailer.now x.out.now c.if-sealed-n.false refl
+    c.decrypt-u.ensures.state c.decrypt-u.ensures.output c.decrypt-u.auto.out
+    (part_none word32 l trailer_mark c.decrypt-u.result x.trailer.now c.if-trailer-eq0.true) c.tag.ensures c.judged.ensures.answer c.judged.ensures.output in
+    record { answer = all.0; output = all.1 }
 
 pub returns : goal.returns
 returns c =
     let x = c.args in
-    opened_by word32 (rounds_of word32 x.rounds) x.key x.s x.sealed.now x.trailer.now x.out.now c.if-sealed-n.false refl
-    c.decrypt-u.ensures.state c.decrypt-u.ensures.output c.decrypt-u.auto.1.1.1.0
-    c.absorb.ensures c.tag-own.ensures c.judged-2.ensures.answer c.judged-2.ensures.output
+    let all = opened_by word32 (rounds_of word32 x.rounds) x.key x.s x.sealed.now x.trailer.now x.out.now c.if-sealed-n.false refl
+    c.decrypt-u.ensures.state c.decrypt-u.ensures.output c.decrypt-u.auto.out
+    c.absorb.ensures c.tag-own.ensures c.judged-2.ensures.answer c.judged-2.ensures.output in
+    record { answer = all.0; output = all.1 }

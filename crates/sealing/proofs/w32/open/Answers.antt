@@ -20,8 +20,9 @@ returns-then-not-done c =
     let e = tested c.open_checks-checked.ensures c.done.ensures (c.if-not-done.true) in
     let x = c.args in
     let bytes : Bytes x.sealed.now = λ i. (c.type_inv.sealed i).fits in
-    open_ensures word32 x.rounds x.key.now x.nonce.now x.header.now x.sealed.now x.trailer.now x.out.now bytes
-    (rw e c.open_checks-checked.ensures) c.runs-n.ensures c.reported.ensures (rw e)
+    let all = open_ensures word32 x.rounds x.key.now x.nonce.now x.header.now x.sealed.now x.trailer.now x.out.now bytes
+    (rw e c.open_checks-checked.ensures) c.runs-n.ensures c.reported.ensures (rw e) in
+    record { answer = all.0; runs = all.1.0; output = all.1.1.0; promise = all.1.1.1 }
 
 pub open_checked-verdict-requires : goal.open_checked-verdict-requires
 open_checked-verdict-requires c =
@@ -40,5 +41,6 @@ returns c =
     (open_rounds (row_bytes word32) (tag_bytes word32) x.rounds (length x.key.now) (length x.nonce.now) (length x.header.now)
     (length x.sealed.now) (length x.trailer.now) (length x.out.now) e) in
     let bytes : Bytes x.sealed.now = λ i. (c.type_inv.sealed i).fits in
-    open_ensures word32 x.rounds x.key.now x.nonce.now x.header.now x.sealed.now x.trailer.now x.out.now bytes
-    (rw e (rw asked at c.open_checked-verdict.ensures.answer)) c.runs-n.ensures c.reported-2.ensures (rw e (rw asked at c.open_checked-verdict.ensures.output))
+    let all = open_ensures word32 x.rounds x.key.now x.nonce.now x.header.now x.sealed.now x.trailer.now x.out.now bytes
+    (rw e (rw asked at c.open_checked-verdict.ensures.answer)) c.runs-n.ensures c.reported-2.ensures (rw e (rw asked at c.open_checked-verdict.ensures.output)) in
+    record { answer = all.0; runs = all.1.0; output = all.1.1.0; promise = all.1.1.1 }

@@ -17,5 +17,6 @@ returns c =
     let k = c.row-k.result in
     let nonce = cond_equal (row_of word32 x.nonce.now) (replicate 4 0) (length x.nonce.now) (row_bytes word32) c.requires.nonce_long c.row.ensures in
     let state = c.before_body-s.ensures ∙ ap (λ (n : List ℕ). after_part word32 l header_mark (start word32 l (tag_bits word32) k n) x.header.now) nonce in
-    opened_of_whole word32 l x.key.now x.nonce.now x.header.now x.sealed.now x.trailer.now c.requires.key_long
-    c.row-k.ensures state x.out.now c.requires.text_long open_at.«open».ensures.0 open_at.«open».ensures.1
+    let all = opened_of_whole word32 l x.key.now x.nonce.now x.header.now x.sealed.now x.trailer.now c.requires.key_long
+    c.row-k.ensures state x.out.now c.requires.text_long c.open.ensures.answer c.open.ensures.output in
+    record { answer = all.0; output = all.1 }

@@ -17,5 +17,6 @@ returns c =
     let k = c.row-k.result in
     let nonce = cond_equal (row_of word64 x.nonce.now) (replicate 4 0) (length x.nonce.now) (row_bytes word64) c.requires.nonce_long c.row.ensures in
     let state = c.before_body-s.ensures ∙ ap (λ (n : List ℕ). after_part word64 l header_mark (start word64 l (tag_bits word64) k n) x.header.now) nonce in
-    opened_of_whole word64 l x.key.now x.nonce.now x.header.now x.sealed.now x.trailer.now c.requires.key_long
-    c.row-k.ensures state x.out.now c.requires.text_long open_at.«open».ensures.0 open_at.«open».ensures.1
+    let all = opened_of_whole word64 l x.key.now x.nonce.now x.header.now x.sealed.now x.trailer.now c.requires.key_long
+    c.row-k.ensures state x.out.now c.requires.text_long c.open.ensures.answer c.open.ensures.output in
+    record { answer = all.0; output = all.1 }

@@ -18,8 +18,9 @@ unfolding seal_answer seal_out
 returns-then-not-done c =
     let e = tested c.seal_checks-answer.ensures c.done.ensures (c.if-not-done.true) in
     let x = c.args in
-    seal_ensures word64 x.rounds x.key.now x.nonce.now x.header.now x.body.now x.trailer.now x.out.now
-    c.seal_checks-answer.ensures c.runs-n.ensures c.reported.ensures (rw e)
+    let all = seal_ensures word64 x.rounds x.key.now x.nonce.now x.header.now x.body.now x.trailer.now x.out.now
+    c.seal_checks-answer.ensures c.runs-n.ensures c.reported.ensures (rw e) in
+    record { answer = all.0; runs = all.1.0; output = all.1.1.0; promise = all.1.1.1 }
 
 pub seal_checked-requires : goal.seal_checked-requires
 seal_checked-requires c =
@@ -37,5 +38,6 @@ returns c =
     rounds_asked word64 x.rounds
     (seal_rounds (row_bytes word64) (tag_bytes word64) x.rounds (length x.key.now) (length x.nonce.now) (length x.header.now)
     (length x.body.now) (length x.trailer.now) (length x.out.now) e) in
-    seal_ensures word64 x.rounds x.key.now x.nonce.now x.header.now x.body.now x.trailer.now x.out.now
-    c.seal_checks-answer.ensures c.runs-n.ensures c.reported-2.ensures (rw e (rw asked at c.seal_checked.ensures))
+    let all = seal_ensures word64 x.rounds x.key.now x.nonce.now x.header.now x.body.now x.trailer.now x.out.now
+    c.seal_checks-answer.ensures c.runs-n.ensures c.reported-2.ensures (rw e (rw asked at c.seal_checked.ensures)) in
+    record { answer = all.0; runs = all.1.0; output = all.1.1.0; promise = all.1.1.1 }
