@@ -20,7 +20,7 @@ use sponge32::pieces::{feed, open};
 use texts::same;
 
 // A checking session: its words hold all that it took in, and note, body and trailer are the bytes accepted of each part. Whatever stands in it, every call answers.
-#[derive(Drop)]
+#[derive(Clone, Copy)]
 pub struct Checking {
     pub words: [Word; 16],
     pub key: Row,
@@ -32,14 +32,14 @@ pub struct Checking {
 }
 
 // What a start or a piece answers, and the session to go on with.
-#[derive(Drop)]
+#[derive(Clone, Copy)]
 pub struct CheckingStep {
     pub answer: Answer,
     pub session: Checking,
 }
 
 // What a close answers, how many times P ran in the whole sealing, and the session to go on with.
-#[derive(Drop)]
+#[derive(Clone, Copy)]
 pub struct CheckingClose {
     pub answer: Answer,
     pub runs: u32,

@@ -19,7 +19,7 @@ use rules::{FRONT, HEADER_MARK, TRAILER_MARK};
 use sponge32::pieces::{feed, seal};
 
 // A sealing session: its words hold all that it took in, and note, body and trailer are the bytes accepted of each part. Whatever stands in it, every call answers.
-#[derive(Drop)]
+#[derive(Clone, Copy)]
 pub struct Sealing {
     pub words: [Word; 16],
     pub key: Row,
@@ -31,14 +31,14 @@ pub struct Sealing {
 }
 
 // What a start or a piece answers, and the session to go on with.
-#[derive(Drop)]
+#[derive(Clone, Copy)]
 pub struct SealingStep {
     pub answer: Answer,
     pub session: Sealing,
 }
 
 // What a close answers, how many times P ran in the whole sealing, and the session to go on with.
-#[derive(Drop)]
+#[derive(Clone, Copy)]
 pub struct SealingClose {
     pub answer: Answer,
     pub runs: u32,

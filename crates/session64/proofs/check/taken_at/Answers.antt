@@ -1,0 +1,28 @@
+-- `session64::check::taken_at`: the parts before the piece are ended, and the piece is taken in.
+use mathlib.Core.Path.{◌≡◌}
+use Rattle.norx.specs.Norx.{word64}
+use Rattle.places.specs.declared.Part.TheVariants.{Note, Body, Trailer}
+use Rattle.session.specs.Sessions.{checking}
+use Rattle.session.proofs.Parts.{taken_at_of}
+use Rattle.rules.specs.Rules.{rounds_of}
+use Rattle.rules.proofs.Limits.{rounds_asked}
+use borrow.Author.Rules.{rules}
+use Rattle.session64.proofs.check.taken_at.Goals as goal
+
+pub returns-in-Note : goal.returns-in-Note
+returns-in-Note c =
+    let x = c.args in
+    let asked : rounds_of word64 x.p.terms.rounds ≡ x.p.terms.rounds = rounds_asked word64 x.p.terms.rounds c.requires.termed in
+    taken_at_of word64 x.p x.part Note x.bytes.now x.s c.in-Note.is c.rank.ensures c.readied-ready.ensures checking (rw asked at c.feed.ensures)
+
+pub returns-in-Body : goal.returns-in-Body
+returns-in-Body c =
+    let x = c.args in
+    let asked : rounds_of word64 x.p.terms.rounds ≡ x.p.terms.rounds = rounds_asked word64 x.p.terms.rounds c.requires.termed in
+    taken_at_of word64 x.p x.part Body x.bytes.now x.s c.in-Body.is c.rank.ensures c.readied-ready.ensures checking (rw asked at c.open.ensures)
+
+pub returns-in-Trailer : goal.returns-in-Trailer
+returns-in-Trailer c =
+    let x = c.args in
+    let asked : rounds_of word64 x.p.terms.rounds ≡ x.p.terms.rounds = rounds_asked word64 x.p.terms.rounds c.requires.termed in
+    taken_at_of word64 x.p x.part Trailer x.bytes.now x.s c.in-Trailer.is c.rank.ensures c.readied-ready.ensures checking (rw asked at c.feed-in-Trailer.ensures)

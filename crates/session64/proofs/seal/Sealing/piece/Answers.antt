@@ -1,0 +1,58 @@
+-- `session64::seal::Sealing::piece`: taken in where the answer is 0, and else nothing changed.
+use Rattle.session64.specs.Kinds.{sealing64}
+use Rattle.session.proofs.Steps.{PieceFound, PieceMade, piece_accepted, piece_taken, piece_wrote, piece_kept, piece_left}
+use borrow.Author.Rules.{rules}
+use Rattle.session64.proofs.seal.Sealing.piece.Goals as goal
+
+pub taken_at-s-requires : goal.taken_at-s-requires
+taken_at-s-requires c =
+    let x = c.args in
+    let found : PieceFound sealing64 x.self x.label x.bytes.now x.out.now = record {
+      place = _;
+      exact = _;
+      answer = _;
+      done = _;
+      place_is = c.place-p.ensures;
+      exact_is = c.exact.ensures;
+      answer_is = c.piece_answer-answer.ensures;
+      done_is = c.done.ensures;
+    } in
+    piece_accepted sealing64 x.self x.label x.bytes.now x.out.now found c.if-done.true
+
+pub returns-then-done : goal.returns-then-done
+returns-then-done c =
+    let x = c.args in
+    let found : PieceFound sealing64 x.self x.label x.bytes.now x.out.now = record {
+      place = _;
+      exact = _;
+      answer = _;
+      done = _;
+      place_is = c.place-p.ensures;
+      exact_is = c.exact.ensures;
+      answer_is = c.piece_answer-answer.ensures;
+      done_is = c.done.ensures;
+    } in
+    let made : PieceMade sealing64 x.self x.label x.bytes.now c.place-p.result = record {
+      rows = _;
+      state = _;
+      place = _;
+      session = _;
+      rows_is = c.rows-before.ensures;
+      state_is = c.taken_at-s.ensures.state;
+      place_is = c.after.ensures;
+      session_is = c.made-next.ensures;
+    } in record { step = piece_taken sealing64 x.self x.label x.bytes.now x.out.now found c.if-done.true made; output = piece_wrote sealing64 x.self x.label x.bytes.now x.out.now found c.if-done.true _ _ c.rows-before.ensures c.taken_at-s.ensures.output }
+
+pub returns-else-done : goal.returns-else-done
+returns-else-done c =
+    let x = c.args in
+    let found : PieceFound sealing64 x.self x.label x.bytes.now x.out.now = record {
+      place = _;
+      exact = _;
+      answer = _;
+      done = _;
+      place_is = c.place-p.ensures;
+      exact_is = c.exact.ensures;
+      answer_is = c.piece_answer-answer.ensures;
+      done_is = c.done.ensures;
+    } in record { step = piece_kept sealing64 x.self x.label x.bytes.now x.out.now found c.if-done.false; output = piece_left sealing64 x.self x.label x.bytes.now x.out.now found c.if-done.false }
