@@ -8,14 +8,14 @@ use answers::Answer;
 use held::receiver::{HeldReceiver, HeldReceiverStep};
 use held::{Held, HeldStep};
 
-#[derive(Drop)]
+#[derive(Clone, Copy)]
 pub struct Kept {
     pub session: Held,
     pub receiver: HeldReceiver,
 }
 
 // What a call answers, the runs of P that it reports, which are 0 of a call that reports none, and what is kept then.
-#[derive(Drop)]
+#[derive(Clone, Copy)]
 pub struct KeptStep {
     pub answer: Answer,
     pub runs: u32,

@@ -1,5 +1,6 @@
 // A text read field by field, without copying it: a tab, a newline or the text's end ends a field.
 #![tactic(auto)]
+
 ghost use Rattle.std.specs.Prelude.{◌≡◌};
 ghost use Rattle.fields.specs.Fields.{field_at};
 

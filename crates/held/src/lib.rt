@@ -12,7 +12,7 @@ mod w32;
 mod w64;
 
 // Its words and its key at its width (those of the other width are of no account), and where it stands.
-#[derive(Drop)]
+#[derive(Clone, Copy)]
 pub struct Held {
     pub check: bool,
     pub wide: bool,
@@ -24,7 +24,7 @@ pub struct Held {
 }
 
 // What a call answers, the runs of P that a close reports, which are 0 of any other call, and the session to go on with.
-#[derive(Drop)]
+#[derive(Clone, Copy)]
 pub struct HeldStep {
     pub answer: Answer,
     pub runs: u32,

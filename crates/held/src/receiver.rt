@@ -8,7 +8,7 @@ use places::terms::Terms;
 use segments::{receiver32, receiver64};
 
 // The receiver of its width; that of the other width is of no account.
-#[derive(Drop)]
+#[derive(Clone, Copy)]
 pub struct HeldReceiver {
     pub wide: bool,
     pub narrow: receiver32::Receiver,
@@ -16,7 +16,7 @@ pub struct HeldReceiver {
 }
 
 // What a call answers, the runs of P that taking a segment reports, which are 0 of a start, and the receiver to go on with.
-#[derive(Drop)]
+#[derive(Clone, Copy)]
 pub struct HeldReceiverStep {
     pub answer: Answer,
     pub runs: u32,

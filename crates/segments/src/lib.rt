@@ -1,5 +1,6 @@
 // Segments of a job, each sealed by itself: sealed and opened at each width, and at a width that is given as a number; and receivers, which take them in order.
 #![tactic(auto)]
+
 ghost use Rattle.std.specs.Prelude.{◌≡◌, ◌++◌, ◌+◌, ◌<◌, length};
 ghost use Rattle.answers.specs.Answers.{number_of};
 ghost use Rattle.rules.specs.Rules.{most_segments};

@@ -15,7 +15,7 @@ use rules::SEGMENT_NUMBER;
 use rules::w32::*;
 
 // What it was started with, and which segment it waits for. It holds job and revision, so that nobody can change them halfway. Whatever stands in it, every call answers.
-#[derive(Drop)]
+#[derive(Clone, Copy)]
 pub struct Receiver {
     pub key: [u8; ROW],
     pub nonce: [u8; JOB_NONCE],
@@ -24,14 +24,14 @@ pub struct Receiver {
 }
 
 // What a start answers, and the receiver to go on with.
-#[derive(Drop)]
+#[derive(Clone, Copy)]
 pub struct ReceiverStep {
     pub answer: Answer,
     pub receiver: Receiver,
 }
 
 // What taking a segment answers, how many times P ran, and the receiver to go on with.
-#[derive(Drop)]
+#[derive(Clone, Copy)]
 pub struct ReceiverTake {
     pub answer: Answer,
     pub runs: u32,

@@ -15,10 +15,10 @@ says_equal P m n to from = of (eqb m n) refl
     of false e = λ p. eqb-false m n e (from p)
 
 -- a test that says so, turned round by the code
-pub says_no : (P : Type 0) (t : Bool) → not t ≡ true → Says P t → P → ⊥
-says_no P true e said = absurd (false≢true e)
+pub says_no : (P : Type 0) (t : Bool) → t ≡ false → Says P t → P → ⊥
+says_no P true e said = absurd (true≢false e)
 says_no P false e said = said
 
-pub says_yes : (P : Type 0) (t : Bool) → not t ≡ false → Says P t → P
+pub says_yes : (P : Type 0) (t : Bool) → t ≡ true → Says P t → P
 says_yes P true e said = said
-says_yes P false e said = absurd (true≢false e)
+says_yes P false e said = absurd (false≢true e)

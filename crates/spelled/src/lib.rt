@@ -1,5 +1,6 @@
 // Bytes spelled as a word of text: `0f20`, a pair of hexadecimal digits for each byte; `-`, no bytes; `a5*300`, one byte so many times.
 #![tactic(auto)]
+
 ghost use Rattle.std.specs.Prelude.{◌≡◌, ◌*◌, ◌<◌, ◌≤◌, [], ◌∷◌, ◌++◌, length, take, drop, replicate};
 ghost use Rattle.spelled.specs.Spelled.{hex_digit, hex_text, plain_word, put_front, put_length, AsPairs, AsTimes, Spells, ReadIs, IsDigit, DigitIs, AllDigits, Starred, Says};
 
