@@ -1,5 +1,6 @@
 // A list of segments as text: one segment a line, the fields job, revision, index and body length parted by tabs, each line ended by a newline.
 #![tactic(auto)]
+
 ghost use Rattle.std.specs.Prelude.{◌≡◌, ◌*◌, ◌≤◌, length};
 ghost use Rattle.rules.specs.Rules.{most_segments};
 ghost use Rattle.lists.specs.Lists.{segment_length, list_text};
