@@ -1,5 +1,6 @@
 // The library's calls, their arguments in plain numbers: for programs that are given a call as data. A text is a stretch of one memory.
 #![tactic(auto)]
+
 ghost use Rattle.std.specs.Prelude.{◌≡◌};
 ghost use Rattle.dispatch.specs.Calls.{low as low_of, stretch_of, part_of, edition_of, terms_of, label_of, outcome_at, out_at, one_call, one_call_out, start_call, piece_call, piece_call_out, close_call, close_call_tag, standing_of, put_call, made_call, made_out, is_call, constant_of};
 

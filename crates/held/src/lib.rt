@@ -1,5 +1,6 @@
 // A session of either kind and width, in plain numbers: for programs that are told by data which it is.
 #![tactic(auto)]
+
 ghost use Rattle.std.specs.Prelude.{◌≡◌};
 ghost use Rattle.held.specs.Held.{closed_held, held_start, held_piece, held_piece_out, held_close, held_tag, held_word};
 

@@ -1,0 +1,19 @@
+-- `dispatch::jobs::receiver`: the receiver's own start.
+use mathlib.Core.Path.{ap, ap₂, ◌∙◌}
+use mathlib.Core.List.{List}
+use Prim.Native.Nat.{ℕ}
+use lib.Dec.{eqb}
+use Rattle.held.specs.Receivers.{held_started}
+use Rattle.dispatch.specs.Calls.{stretch_of}
+use Rattle.dispatch.specs.Segments.{receiver_call}
+use borrow.Author.Rules.{rules}
+use Rattle.dispatch.proofs.jobs.receiver.Goals as goal
+
+pub returns : goal.returns
+unfolding receiver_call
+returns c =
+    let x = c.args in
+    let a = x.a in
+    let wide = eqb a.first 64 in
+    c.start.ensures ∙ ap₂ (λ (k n : List ℕ). held_started wide k n c.terms.result) c.stretch.ensures c.stretch-2.ensures
+    ∙ ap (held_started wide (stretch_of 0 a.third x.memory.now) (stretch_of a.third a.fourth x.memory.now)) c.terms.ensures
