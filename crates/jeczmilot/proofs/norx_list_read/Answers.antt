@@ -7,10 +7,10 @@ use Rattle.jeczmilot.proofs.norx_list_read.Goals as goal
 
 pub returns-in-Taken : goal.returns-in-Taken
 returns-in-Taken c =
-    let n = c.job-1.given in
-    (Taken n.0.0 n.0.1.0 n.0.1.1.0 n.0.1.1.1.0, subst (ReadAs c.args.text.now) n.1 c.read_list.ensures, refl)
+    let n = c.in-Taken in
+    (Taken n.job n.revision n.segments n.body, subst (ReadAs c.args.text.now) n.is c.read_list.ensures, refl)
 
 pub returns-in-Refused : goal.returns-in-Refused
 returns-in-Refused c =
-    let n = c.line-1.given in
-    (Refused n.0.0, subst (ReadAs c.args.text.now) n.1 c.read_list.ensures, refl)
+    let n = c.in-Refused in
+    (Refused n.line, subst (ReadAs c.args.text.now) n.is c.read_list.ensures, refl)
