@@ -1,17 +1,16 @@
 -- A body sealed and a text opened from the state behind the header are `sealed` and `opened`, at every width.
 -- Assumes nothing.
-use mathlib.Core.Path.{◌≡◌, refl, sym, ap, ap₂, ◌∙◌}
+use mathlib.Core.Path.{◌≡◌, refl, ap, ap₂, ◌∙◌}
 use mathlib.Core.Bool.{cond}
 use mathlib.Core.List.{List}
 use mathlib.Core.Option.{Option}
 use Prim.Native.Nat.{ℕ, ◌+◌}
-use borrow.Author.Tests.{eq-eqb}
 use lib.Dec.{eqb}
 use lib.ListN.{length, replicate}
 use Rattle.norx.specs.Norx.{Width, row_bytes, tag_bits, State, row_of, header_mark, start, after_part, before_body, tag, sealed, recovered, opened}
 use Rattle.answers.specs.declared.Answer.{Answer}
 use Rattle.answers.specs.declared.Answer.TheVariants.{OutputLength}
-use Rattle.answers.proofs.Tests.{cond_true, cond_equal}
+use Rattle.answers.proofs.Tests.{cond_equal}
 use Rattle.rules.specs.Rules.{tag_bytes}
 use Rattle.rules.specs.Calls.{answer_of, out_of}
 use Rattle.sealing.specs.Bodies.{tag_from, sealed_from, opened_from}

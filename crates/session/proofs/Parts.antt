@@ -6,7 +6,7 @@ use mathlib.Core.List.{List, ◌++◌}
 use Prim.Native.Nat.{ℕ, ◌≤◌}
 use native.Mathlib.Omega.{arith}
 use lib.Dec.{eqb}
-use lib.ListN.{length, take, drop, replicate}
+use lib.ListN.{length, drop, replicate}
 use lib.Seq.{length-take-le}
 use Rattle.norx.specs.Norx.{Width, row_bytes, tag_bits, State, row_at, row_of, bytes_of_row, header_mark, body_mark, trailer_mark, start, finished, tag_of}
 use Rattle.norx.specs.Stream.{fed, fed_text}

@@ -1,7 +1,6 @@
 -- `answers::reported` reports the runs with 0 and 10.
 use mathlib.Core.Path.{sym, ap}
 use Prim.Native.Nat.{ℕ}
-use borrow.Author.Rules.{rules}
 use Rattle.answers.proofs.Runs.{all_reported, none_reported}
 use Rattle.answers.proofs.reported.Goals as goal
 

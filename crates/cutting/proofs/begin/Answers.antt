@@ -1,7 +1,6 @@
 -- `cutting::begin`: where a segment begins, by a quotient.
 use mathlib.Core.Path.{sym}
 use native.Mathlib.Omega.{arith}
-use borrow.Author.Rules.{rules}
 use Rattle.cutting.specs.Cutting.{begin_of}
 use Rattle.cutting.proofs.Cuts.{full_within, full_beyond}
 use Rattle.cutting.proofs.begin.Goals as goal

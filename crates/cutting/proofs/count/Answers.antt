@@ -1,6 +1,5 @@
 -- `cutting::count`: what is left of a number that is not 0.
 use mathlib.Core.Path.{ap, sym, refl}
-use borrow.Author.Rules.{rules}
 use Rattle.cutting.specs.Cutting.{count_of}
 use Rattle.cutting.proofs.count.Goals as goal
 

@@ -1,7 +1,6 @@
 -- `cutting::end`: where a segment ends, by a quotient.
 use mathlib.Core.Path.{sym}
 use native.Mathlib.Omega.{arith}
-use borrow.Author.Rules.{rules}
 use Rattle.cutting.specs.Cutting.{end_of}
 use Rattle.cutting.proofs.Cuts.{full_within, full_beyond}
 use Rattle.cutting.proofs.end.Goals as goal

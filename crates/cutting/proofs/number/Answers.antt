@@ -1,6 +1,5 @@
 -- `cutting::number`: the bytes of the number, of which 64 bits matter.
 use mathlib.Core.Path.{ap, ◌∙◌}
-use borrow.Author.Rules.{rules}
 use Rattle.norx.specs.Norx.{bytes_of}
 use Rattle.cutting.specs.Cutting.{segment_number}
 use Rattle.cutting.proofs.Cuts.{eight_of}

@@ -1,5 +1,4 @@
 -- `cutting::number_word`: twice the index, and 1 more of the last.
-use borrow.Author.Rules.{rules}
 use Rattle.cutting.proofs.Cuts.{number_last, number_other}
 use Rattle.cutting.proofs.number_word.Goals as goal
 

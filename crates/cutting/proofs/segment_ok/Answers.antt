@@ -1,6 +1,5 @@
 -- `cutting::segment_ok`: the tests of the last segment, and of any other.
 use mathlib.Core.Path.{refl}
-use borrow.Author.Rules.{rules}
 use Rattle.cutting.specs.Cutting.{segment_ok}
 use Rattle.cutting.proofs.segment_ok.Goals as goal
 

@@ -1,6 +1,5 @@
 -- `cutting::take_links` is the chain of its definition, link by link.
 use mathlib.Core.Path.{refl}
-use borrow.Author.Rules.{rules}
 use Rattle.answers.specs.declared.Answer.TheVariants.{SegmentLength, AfterLast}
 use Rattle.answers.proofs.Chain.{link}
 use Rattle.cutting.specs.Cutting.{take_links}

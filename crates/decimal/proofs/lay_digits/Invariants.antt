@@ -1,13 +1,9 @@
 -- `decimal::lay_digits`: with v's text laid too, the bytes are those that the number's text laid leaves.
-use mathlib.Core.Path.{◌≡◌, refl, sym, ap, ◌∙◌}
-use Prim.Native.Nat.{◌+◌, ◌<◌, ◌/◌, ◌%◌}
-use native.Mathlib.Omega.{arith}
-use borrow.Author.Rules.{rules}
-use lib.ListN.{length, length-set}
-use Rattle.decimal.specs.Decimal.{digit, num_text}
+use mathlib.Core.Path.{◌≡◌}
+use Prim.Native.Nat.{◌+◌, ◌<◌}
+use lib.ListN.{length}
+use Rattle.decimal.specs.Decimal.{num_text}
 use Rattle.decimal.specs.Laid.{laid}
-use Rattle.decimal.proofs.Digits.{num_small, num_more, length_small, length_more, length_pos}
-use Rattle.decimal.proofs.Lay.{laid_one, laid_before}
 use Rattle.decimal.proofs.lay_digits.Given as goal
 
 abbrev pub invariant-loop-v : goal.invariant-loop-v

@@ -1,11 +1,8 @@
 -- `decimal::number_at`: before the turn i the digits are v's text and those from i on, and v is not 0.
-use Prim.Native.Nat.{◌-◌, ◌≤◌}
 use native.Mathlib.Omega.{arith}
-use borrow.Author.Rules.{rules}
-use lib.ListN.{length}
 use Rattle.decimal.proofs.Digits.{num_snoc}
 use Rattle.decimal.proofs.Reading.{one_inv}
-use Rattle.decimal.proofs.Runs.{Begun, none_beyond, none_there, begins, goes_on, goes_wrong, stops, ends, tested_not, tested}
+use Rattle.decimal.proofs.Runs.{none_beyond, none_there, begins, goes_on, goes_wrong, stops, ends, tested_not, tested}
 use Rattle.decimal.proofs.number_at.Goals as goal
 
 pub returns-then-text-at : goal.returns-then-text-at

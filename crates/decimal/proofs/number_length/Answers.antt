@@ -1,12 +1,7 @@
 -- `decimal::number_length`: the digits counted and those of v are one more than the number's.
-use Prim.Native.Nat.{◌+◌, ◌≤◌}
-use mathlib.Core.Path.{◌≡◌}
 use native.Mathlib.Omega.{arith}
 use native.Mathlib.Nat.{lt_of_lt_of_le}
-use borrow.Author.Rules.{rules}
 use lib.Dec.{lit≤}
-use lib.ListN.{length}
-use Rattle.decimal.specs.Decimal.{num_text}
 use Rattle.decimal.proofs.Digits.{length_small, length_more, length_pos, length_below}
 use Rattle.decimal.proofs.number_length.Goals as goal
 

@@ -1,6 +1,5 @@
 -- `decimal::one_digit`: the bytes from 48 to 57 are digits, and no others.
 use native.Mathlib.Omega.{arith}
-use borrow.Author.Rules.{rules}
 use Rattle.decimal.proofs.Reading.{one_inv, one_is}
 use Rattle.decimal.proofs.one_digit.Goals as goal
 

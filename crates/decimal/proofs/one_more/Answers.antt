@@ -1,6 +1,5 @@
 -- `decimal::one_more`: a number that is not 0 takes any digit more, but that none is above the largest.
 use native.Mathlib.Omega.{arith}
-use borrow.Author.Rules.{rules}
 use Rattle.decimal.proofs.Reading.{one_inv, more_is, more_inv, no_more}
 use Rattle.decimal.proofs.one_more.Goals as goal
 

@@ -1,7 +1,6 @@
 -- `decimal::put_number`: the digits are laid where there is room for them.
 use mathlib.Core.Path.{sym, ◌∙◌}
 use native.Mathlib.Omega.{arith}
-use borrow.Author.Rules.{rules}
 use Rattle.decimal.specs.Decimal.{num_text}
 use Rattle.decimal.proofs.Digits.{length_pos}
 use Rattle.decimal.proofs.Lay.{put_room, put_full}

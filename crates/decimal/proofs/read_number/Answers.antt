@@ -1,6 +1,5 @@
 -- `decimal::read_number`: a word is a number where the digits at its start are all of it.
 use mathlib.Core.Path.{subst}
-use borrow.Author.Rules.{rules}
 use Rattle.decimal.specs.Decimal.{FoundIs}
 use Rattle.decimal.proofs.Runs.{word_none, word_short, word_whole}
 use Rattle.decimal.proofs.read_number.Goals as goal

@@ -1,5 +1,4 @@
 -- `decimal::zero_at`: 0 is a number where no digit stands behind it.
-use borrow.Author.Rules.{rules}
 use mathlib.Core.Path.{sym, ◌∙◌}
 use Rattle.decimal.proofs.Runs.{zero_alone, zero_last, zero_more}
 use Rattle.decimal.proofs.zero_at.Goals as goal

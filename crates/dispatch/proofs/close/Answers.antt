@@ -5,7 +5,6 @@ use Prim.Native.Nat.{ℕ}
 use Rattle.places.specs.declared.terms.Edition.{Edition}
 use Rattle.held.specs.Held.{held_close, held_tag}
 use Rattle.dispatch.specs.Calls.{close_call, close_call_tag}
-use borrow.Author.Rules.{rules}
 use Rattle.dispatch.proofs.close.Goals as goal
 
 pub returns : goal.returns

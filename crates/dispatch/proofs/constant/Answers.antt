@@ -2,7 +2,6 @@
 use mathlib.Core.Path.{sym, ◌∙◌}
 use Rattle.answers.proofs.Tests.{cond_true, cond_false}
 use Rattle.dispatch.specs.Calls.{constant_of}
-use borrow.Author.Rules.{rules}
 use Rattle.dispatch.proofs.constant.Goals as goal
 
 pub returns-then-wide : goal.returns-then-wide

@@ -4,7 +4,6 @@ use Prim.Native.Nat.{ℕ}
 use Rattle.places.specs.declared.terms.Edition.{Edition}
 use Rattle.places.specs.declared.Part.{Part}
 use Rattle.places.specs.declared.Label.{Label}
-use borrow.Author.Rules.{rules}
 use Rattle.dispatch.proofs.label.Goals as goal
 
 abbrev made : ℕ → Edition → Part → Label

@@ -3,7 +3,6 @@ use mathlib.Core.Path.{◌≡◌, sym, ◌∙◌}
 use mathlib.Core.Bool.{true, false}
 use Rattle.dispatch.specs.Calls.{start_call, made_call, made_out}
 use Rattle.dispatch.proofs.Number.{at_seals, at_opens, at_starts, at_checks, at_offers, at_closes}
-use borrow.Author.Rules.{rules}
 use Rattle.dispatch.proofs.make.Goals as goal
 
 pub returns-then-k-eq1 : goal.returns-then-k-eq1

@@ -2,7 +2,6 @@
 use mathlib.Core.Path.{ap, ◌∙◌}
 use Rattle.dispatch.specs.Calls.{answered, outcome_at, out_at, one_call, one_call_out}
 use Rattle.dispatch.proofs.Same.{by_same}
-use borrow.Author.Rules.{rules}
 use Rattle.dispatch.proofs.one_call.Goals as goal
 
 pub returns : goal.returns

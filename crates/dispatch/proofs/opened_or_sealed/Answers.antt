@@ -3,7 +3,6 @@ use mathlib.Core.Path.{sym, ◌∙◌}
 use Rattle.answers.proofs.Tests.{cond_true, cond_false}
 use Rattle.answers.proofs.Runs.{one_outcome}
 use Rattle.dispatch.specs.Calls.{outcome_at, out_at}
-use borrow.Author.Rules.{rules}
 use Rattle.dispatch.proofs.opened_or_sealed.Goals as goal
 
 pub returns-then-opens : goal.returns-then-opens

@@ -5,7 +5,6 @@ use Prim.Native.Nat.{ℕ}
 use Rattle.places.specs.declared.Label.{Label}
 use Rattle.held.specs.Held.{held_piece, held_piece_out}
 use Rattle.dispatch.specs.Calls.{piece_call, piece_call_out}
-use borrow.Author.Rules.{rules}
 use Rattle.dispatch.proofs.piece.Goals as goal
 
 pub returns : goal.returns

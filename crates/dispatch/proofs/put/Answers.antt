@@ -1,7 +1,6 @@
 -- `dispatch::put`: put together.
 use mathlib.Core.Path.{ap₂}
 use Rattle.dispatch.specs.Calls.{placed}
-use borrow.Author.Rules.{rules}
 use Rattle.dispatch.proofs.put.Goals as goal
 
 pub returns : goal.returns

@@ -4,7 +4,6 @@ use borrow.Author.Tests.{eq-eqb, ne_eqb}
 use Rattle.places.specs.declared.Standing.TheVariants.{Open}
 use Rattle.answers.proofs.Tests.{cond_true, cond_false}
 use Rattle.dispatch.specs.Calls.{standing_of}
-use borrow.Author.Rules.{rules}
 use Rattle.dispatch.proofs.standing.Goals as goal
 
 pub returns-then-k-eq0 : goal.returns-then-k-eq0

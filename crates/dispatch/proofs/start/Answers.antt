@@ -5,7 +5,6 @@ use Prim.Native.Nat.{ℕ}
 use lib.Dec.{eqb}
 use Rattle.held.specs.Held.{held_start}
 use Rattle.dispatch.specs.Calls.{stretch_of, start_call}
-use borrow.Author.Rules.{rules}
 use Rattle.dispatch.proofs.start.Goals as goal
 
 pub returns : goal.returns

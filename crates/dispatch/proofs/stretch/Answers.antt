@@ -3,7 +3,6 @@ use mathlib.Core.Path.{sym, ◌∙◌}
 use borrow.Author.Tests.{le-leb, lt-leb}
 use Rattle.answers.proofs.Tests.{cond_true, cond_false}
 use Rattle.dispatch.specs.Calls.{stretch_of}
-use borrow.Author.Rules.{rules}
 use Rattle.dispatch.proofs.stretch.Goals as goal
 
 pub returns-then-memory-to : goal.returns-then-memory-to

@@ -3,7 +3,6 @@ use mathlib.Core.Path.{ap₂}
 use Prim.Native.Nat.{ℕ}
 use Rattle.places.specs.declared.terms.Edition.{Edition}
 use Rattle.places.specs.declared.terms.Terms.{Terms}
-use borrow.Author.Rules.{rules}
 use Rattle.dispatch.proofs.terms.Goals as goal
 
 abbrev made : ℕ → Edition → Terms

@@ -1,11 +1,8 @@
 -- `fields::field_at`: before each turn the field has the bytes from at to to, and what the bytes from to on begin with.
-use mathlib.Core.Path.{◌≡◌, sym, ap}
+use mathlib.Core.Path.{◌≡◌}
 use Prim.Native.Nat.{◌+◌, ◌-◌, ◌≤◌}
-use native.Mathlib.Omega.{arith}
-use borrow.Author.Rules.{rules}
 use lib.ListN.{length, drop}
 use Rattle.fields.specs.Fields.{field_of}
-use Rattle.fields.proofs.Fields.{field_end_lem, field_stop, field_more, field_is, within_lt, within_ge, within_le}
 use Rattle.fields.proofs.field_at.Given as goal
 
 abbrev pub invariant-loop-to : goal.invariant-loop-to

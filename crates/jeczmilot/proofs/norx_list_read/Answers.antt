@@ -1,6 +1,5 @@
 -- `jeczmilot::norx_list_read` gives the numbers of what the text is read as.
 use mathlib.Core.Path.{refl, subst}
-use borrow.Author.Rules.{rules}
 use Rattle.lists.specs.Readings.{ReadAs}
 use Rattle.lists.specs.declared.Reading.TheVariants.{Taken, Refused}
 use Rattle.jeczmilot.proofs.norx_list_read.Goals as goal

@@ -1,6 +1,5 @@
 -- `jeczmilot::norx_list_write` gives the number of the answer.
 use mathlib.Core.Path.{ap, ◌∙◌}
-use borrow.Author.Rules.{rules}
 use Rattle.answers.specs.Answers.{number_of}
 use Rattle.jeczmilot.proofs.norx_list_write.Goals as goal
 

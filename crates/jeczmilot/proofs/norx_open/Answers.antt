@@ -1,5 +1,4 @@
 -- `jeczmilot::norx_open` gives the number of the answer, and the runs.
-use borrow.Author.Rules.{rules}
 use Rattle.sealing.specs.Widths.{open_answer_at, open_runs_at, open_out_at}
 use Rattle.sealing.specs.Promises.{OpensAt}
 use Rattle.jeczmilot.proofs.Outcomes.{as_numbers}

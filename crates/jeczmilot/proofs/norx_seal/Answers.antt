@@ -1,5 +1,4 @@
 -- `jeczmilot::norx_seal` gives the number of the answer, and the runs.
-use borrow.Author.Rules.{rules}
 use Rattle.sealing.specs.Widths.{seal_answer_at, seal_runs_at, seal_out_at}
 use Rattle.sealing.specs.Promises.{SealsAt}
 use Rattle.jeczmilot.proofs.Outcomes.{as_numbers}

@@ -1,6 +1,5 @@
 -- `jeczmilot::norx_segment_open` gives the number of the answer, and the runs.
 use mathlib.Core.Path.{ap₂, ◌∙◌}
-use borrow.Author.Rules.{rules}
 use Rattle.places.specs.declared.terms.Terms.{Terms}
 use Rattle.cutting.specs.declared.Waiting.{Waiting}
 use Rattle.segments.specs.Segments.{take_answer_at, take_runs_at, take_out_at}

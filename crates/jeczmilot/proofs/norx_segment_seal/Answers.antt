@@ -1,6 +1,5 @@
 -- `jeczmilot::norx_segment_seal` gives the number of the answer, and the runs.
 use mathlib.Core.Path.{ap, ◌∙◌}
-use borrow.Author.Rules.{rules}
 use Rattle.places.specs.declared.terms.Terms.{Terms}
 use Rattle.segments.specs.Segments.{segment_answer_at, segment_runs_at, segment_out_at}
 use Rattle.jeczmilot.specs.Numbers.{yes}

@@ -1,7 +1,6 @@
 -- `jeczmilot::numbers`: the number of the answer, and the runs as they are.
 use mathlib.Core.Path.{ap}
 use Prim.Native.Nat.{ℕ}
-use borrow.Author.Rules.{rules}
 use Rattle.jeczmilot.specs.declared.OutcomeNumbers.{OutcomeNumbers}
 use Rattle.jeczmilot.proofs.numbers.Goals as goal
 

@@ -1,10 +1,7 @@
 -- `lists::index_digits`: before each turn at most so many digits of each index are counted.
-use mathlib.Core.Path.{◌≡◌, refl, sym, ap, ◌∙◌}
-use Prim.Native.Nat.{ℕ, suc, ◌-◌, ◌*◌, ◌≤◌, ◌^◌}
-use native.Mathlib.Omega.{arith}
-use native.Mathlib.Nat.{pow-suc}
-use borrow.Author.Rules.{rules}
-use Rattle.lists.proofs.Indices.{counted, counted_one, counted_more, counted_all, counted_most}
+use mathlib.Core.Path.{◌≡◌}
+use Prim.Native.Nat.{ℕ, suc, ◌-◌, ◌≤◌, ◌^◌}
+use Rattle.lists.proofs.Indices.{counted}
 use Rattle.lists.proofs.index_digits.Given as goal
 
 abbrev pub invariant-loop-power : goal.invariant-loop-power

@@ -2,7 +2,6 @@
 use mathlib.Core.Path.{ap₂}
 use Prim.Native.Nat.{ℕ, ◌-◌}
 use native.Mathlib.Omega.{arith}
-use borrow.Author.Rules.{rules}
 use Rattle.lists.specs.Lists.{segment_length}
 use Rattle.lists.proofs.Lengths.{begin_end}
 use Rattle.lists.proofs.segment_length.Goals as goal

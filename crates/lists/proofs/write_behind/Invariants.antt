@@ -1,16 +1,12 @@
 -- `lists::write_behind`: before the turn i the first i lines are laid.
-use mathlib.Core.Path.{◌≡◌, refl, sym, ap, ◌∙◌}
+use mathlib.Core.Path.{◌≡◌}
 use mathlib.Core.List.{List, ◌++◌}
 use Prim.Native.Nat.{ℕ, ◌-◌, ◌≤◌}
-use native.Mathlib.Omega.{arith}
-use borrow.Author.Rules.{rules}
 use lib.ListN.{length}
 use Rattle.decimal.specs.Laid.{laid}
-use Rattle.decimal.proofs.Lay.{laid_none}
 use Rattle.cutting.specs.Cutting.{count_of}
 use Rattle.lists.specs.Lists.{segment_length, lines_of}
-use Rattle.lists.specs.Pieces.{rest_text, lines_behind}
-use Rattle.lists.proofs.Writing.{length_next, line_room, more_laid, all_laid}
+use Rattle.lists.specs.Pieces.{rest_text}
 use Rattle.lists.proofs.write_behind.Given as goal
 
 -- line i with a front, and the first k lines

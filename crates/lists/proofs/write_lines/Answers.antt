@@ -1,7 +1,6 @@
 -- `lists::write_lines`: the front in a buffer of its own, and every line with it.
 use mathlib.Core.Path.{sym, ap, ◌∙◌}
 use native.Mathlib.Omega.{arith}
-use borrow.Author.Rules.{rules}
 use lib.ListN.{length}
 use Rattle.lists.specs.Pieces.{front_text}
 use Rattle.lists.proofs.Writing.{front_most, front_taken, from_front}

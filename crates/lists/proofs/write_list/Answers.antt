@@ -1,6 +1,5 @@
 -- `lists::write_list`: the chain of its refusals, and the lines where it gives none.
 use mathlib.Core.Path.{refl, ap, ◌∙◌}
-use borrow.Author.Rules.{rules}
 use lib.Dec.{eqb}
 use lib.ListN.{length}
 use Rattle.answers.specs.declared.Answer.TheVariants.{OverLimit, OutputLength}

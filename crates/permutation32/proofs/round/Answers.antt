@@ -1,5 +1,4 @@
 -- `permutation32::round` is F: the diagonal step after the column step.
-use borrow.Author.Rules.{rules}
 use Rattle.norx.specs.Norx.{f_of}
 use Rattle.permutation32.proofs.round.Goals as goal
 

@@ -1,5 +1,4 @@
 -- `permutation64::column_step` is G on the columns: its four steps' equations joined.
-use borrow.Author.Rules.{rules}
 use Rattle.norx.specs.Norx.{word64, row_at, on_columns}
 use Rattle.norx.proofs.Steps.{by_rows}
 use Rattle.permutation64.proofs.column_step.Goals as goal

@@ -1,6 +1,5 @@
 -- `permutation64::diagonal_step`: G on the columns into which the diagonals were picked, put back.
 use mathlib.Core.Path.{◌≡◌, refl, ◌∙◌}
-use borrow.Author.Rules.{rules}
 use Rattle.norx.specs.Norx.{word64, g_of, row, rows, word_at, row_at, on_columns}
 use Rattle.norx.proofs.Slices.{list4}
 use Rattle.norx.proofs.Steps.{by_rows, by_picking}

@@ -1,6 +1,5 @@
 -- `places::close_answer` is the chain of its definition, link by link.
 use mathlib.Core.Path.{◌≡◌, refl}
-use borrow.Author.Rules.{rules}
 use Rattle.answers.specs.declared.Answer.TheVariants.{TagLength, OverLimit, NotSound}
 use Rattle.answers.proofs.Chain.{link}
 use Rattle.places.specs.Terms.{of_edition}

@@ -1,5 +1,4 @@
 -- `places::exact`, part by part.
-use borrow.Author.Rules.{rules}
 use Rattle.places.proofs.exact.Goals as goal
 
 pub returns-in-Note : goal.returns-in-Note

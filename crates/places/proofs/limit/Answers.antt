@@ -1,6 +1,5 @@
 -- `places::limit`, part by part.
 use mathlib.Core.Path.{refl}
-use borrow.Author.Rules.{rules}
 use Rattle.places.proofs.limit.Goals as goal
 
 pub returns-in-Note : goal.returns-in-Note

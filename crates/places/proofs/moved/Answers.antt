@@ -1,7 +1,6 @@
 -- `places::moved`, part by part.
 use mathlib.Core.Path.{refl}
 use native.Mathlib.Omega.{arith}
-use borrow.Author.Rules.{rules}
 use Rattle.places.proofs.moved.Goals as goal
 
 pub overflow_add-result : goal.overflow_add-result

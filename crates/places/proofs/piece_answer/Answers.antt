@@ -1,7 +1,6 @@
 -- `places::piece_answer` is the chain of its definition, link by link.
 use mathlib.Core.Path.{◌≡◌, refl, ap, ap₂, ◌∙◌}
 use Prim.Native.Nat.{ℕ, ◌+◌}
-use borrow.Author.Rules.{rules}
 use lib.Dec.{leb, eqb}
 use Rattle.answers.specs.declared.Answer.TheVariants.{OverLimit, OutputLength, EarlierPart, OtherOffset, NotSound}
 use Rattle.answers.specs.Answers.{need_of}

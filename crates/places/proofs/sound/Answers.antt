@@ -1,6 +1,5 @@
 -- `places::sound`: closed, or the three tests of the part that the place is open in.
 use mathlib.Core.Path.{ap}
-use borrow.Author.Rules.{rules}
 use Rattle.places.specs.declared.Standing.{Standing}
 use Rattle.places.specs.Places.{sound_at, sound_of}
 use Rattle.places.proofs.sound.Goals as goal

@@ -1,6 +1,5 @@
 -- `places::start_answer` is the chain of its definition, link by link.
 use mathlib.Core.Path.{refl}
-use borrow.Author.Rules.{rules}
 use Rattle.answers.specs.declared.Answer.TheVariants.{RoundsNumber, KeyLength}
 use Rattle.answers.proofs.Chain.{link}
 use Rattle.places.specs.Places.{start_answer}

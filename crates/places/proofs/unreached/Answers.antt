@@ -1,5 +1,4 @@
 -- `places::unreached`, part by part.
-use borrow.Author.Rules.{rules}
 use Rattle.places.proofs.unreached.Goals as goal
 
 pub returns-in-Note : goal.returns-in-Note

@@ -1,5 +1,4 @@
 -- `sealing::open` goes by the width.
-use borrow.Author.Rules.{rules}
 use Rattle.norx.specs.Norx.{word32, word64}
 use Rattle.sealing.specs.Widths.{open_answer_at, open_runs_at, open_out_at}
 use Rattle.sealing.proofs.Widths.{width_32, width_64, width_none, opens_at, at_none}

@@ -1,5 +1,4 @@
 -- `sealing::seal` goes by the width.
-use borrow.Author.Rules.{rules}
 use Rattle.norx.specs.Norx.{word32, word64}
 use Rattle.sealing.specs.Widths.{seal_answer_at, seal_runs_at, seal_out_at}
 use Rattle.sealing.proofs.Widths.{width_32, width_64, width_none, seals_at, at_none}

@@ -1,5 +1,4 @@
 -- `segments::open` goes by the width.
-use borrow.Author.Rules.{rules}
 use Rattle.sealing.proofs.Widths.{width_32, width_64, width_none}
 use Rattle.segments.specs.Segments.{take_answer_at, take_runs_at, take_out_at}
 use Rattle.segments.proofs.open.Goals as goal

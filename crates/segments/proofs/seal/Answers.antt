@@ -1,5 +1,4 @@
 -- `segments::seal` goes by the width.
-use borrow.Author.Rules.{rules}
 use Rattle.sealing.proofs.Widths.{width_32, width_64, width_none}
 use Rattle.segments.specs.Segments.{segment_answer_at, segment_runs_at, segment_out_at}
 use Rattle.segments.proofs.seal.Goals as goal

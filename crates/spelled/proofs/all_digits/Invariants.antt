@@ -1,10 +1,7 @@
 -- `spelled::all_digits`: before the turn i the first i bytes are digits.
 use Prim.Native.Nat.{ℕ, ◌-◌, ◌≤◌, ◌<◌}
-use native.Mathlib.Omega.{arith}
-use borrow.Author.Rules.{rules}
 use lib.ListN.{length, get_or}
 use Rattle.spelled.specs.Spelled.{IsDigit}
-use Rattle.spelled.proofs.Hex.{digits_more, read_none, read_some}
 use Rattle.spelled.proofs.all_digits.Given as goal
 
 abbrev pub invariant-loop-i : goal.invariant-loop-i

@@ -1,6 +1,5 @@
 -- `spelled::digit_of`: 48 and on for the first ten, 97 and on for the others.
 use native.Mathlib.Omega.{arith}
-use borrow.Author.Rules.{rules}
 use Rattle.spelled.proofs.Hex.{digit_low, digit_high}
 use Rattle.spelled.proofs.digit_of.Goals as goal
 

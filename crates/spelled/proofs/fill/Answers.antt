@@ -1,11 +1,11 @@
 -- `spelled::fill`: before the turn i the first i bytes are b.
 use mathlib.Core.Path.{◌≡◌, refl, ap, ◌∙◌}
-use mathlib.Core.List.{List, ◌++◌}
-use Prim.Native.Nat.{ℕ, ◌-◌, ◌≤◌, ◌<◌}
+use mathlib.Core.List.{List}
+use Prim.Native.Nat.{ℕ, ◌<◌}
 use native.Mathlib.Omega.{arith}
 use borrow.Author.Fill.{fill_none, fill_more}
 use borrow.Author.Rules.{rules}
-use lib.ListN.{length, drop, set, replicate, length-set}
+use lib.ListN.{length, set, length-set}
 use Rattle.norx.proofs.Slices.{filled_all}
 use Rattle.spelled.proofs.fill.Goals as goal
 

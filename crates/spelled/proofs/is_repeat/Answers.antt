@@ -1,5 +1,4 @@
 -- `spelled::is_repeat`: more than three bytes, the third of which is `*`.
-use borrow.Author.Rules.{rules}
 use lib.ListN.{get_or}
 use Rattle.spelled.specs.Spelled.{Starred}
 use Rattle.spelled.proofs.Says.{says_equal}

@@ -1,12 +1,8 @@
 -- `spelled::lay`: before the turn i the first i bytes have the first 2 * i digits for their text.
-use mathlib.Core.Path.{◌≡◌, refl, ap, ◌∙◌}
-use Prim.Native.Nat.{ℕ, ◌+◌, ◌*◌, ◌-◌, ◌≤◌}
-use native.Mathlib.Omega.{arith}
-use borrow.Author.Rules.{rules}
-use lib.ListN.{length, take, drop, length-set}
-use lib.Seq.{take_all, drop-set-lt}
+use mathlib.Core.Path.{◌≡◌}
+use Prim.Native.Nat.{◌*◌, ◌-◌, ◌≤◌}
+use lib.ListN.{length, take, drop}
 use Rattle.spelled.specs.Spelled.{hex_text}
-use Rattle.spelled.proofs.Hex.{laid_next}
 use Rattle.spelled.proofs.lay.Given as goal
 
 abbrev pub invariant-loop-i : goal.invariant-loop-i

@@ -3,7 +3,6 @@ use mathlib.Core.Path.{refl}
 use mathlib.Core.Logic.{inl, inr}
 use mathlib.Core.List.{[]}
 use native.Mathlib.Omega.{arith}
-use borrow.Author.Rules.{rules}
 use Rattle.spelled.specs.Spelled.{AsPairs, AsTimes, Spells}
 use Rattle.spelled.proofs.Spells.{starred_times, other_pairs, read_as}
 use Rattle.spelled.proofs.read_bytes.Goals as goal

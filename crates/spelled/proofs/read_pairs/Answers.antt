@@ -1,7 +1,6 @@
 -- `spelled::read_pairs`: digits, twice as many as there are bytes.
 use mathlib.Core.Path.{refl}
 use native.Mathlib.Omega.{arith}
-use borrow.Author.Rules.{rules}
 use Rattle.spelled.proofs.Says.{says_no, says_yes}
 use Rattle.spelled.proofs.Spells.{pairs_length, pairs_digits, pairs_laid}
 use Rattle.spelled.proofs.read_pairs.Goals as goal

@@ -1,7 +1,6 @@
 -- `spelled::read_times`: two digits, and a number behind the star.
 use mathlib.Core.Path.{refl, sym, ◌∙◌}
 use native.Mathlib.Omega.{arith}
-use borrow.Author.Rules.{rules}
 use Rattle.norx.proofs.Slices.{tail}
 use Rattle.decimal.proofs.Digits.{num_inj}
 use lib.ListN.{take}

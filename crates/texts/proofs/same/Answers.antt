@@ -1,5 +1,4 @@
 -- `texts::same` goes by the lengths.
-use borrow.Author.Rules.{rules}
 use Rattle.norx.proofs.Same.{same_lengths}
 use Rattle.texts.proofs.same.Goals as goal
 

@@ -1,10 +1,8 @@
 -- `texts::same_bytes`: after i bytes, what is left decides.
-use mathlib.Core.Path.{◌≡◌, refl}
-use Prim.Native.Nat.{◌-◌}
+use mathlib.Core.Path.{refl}
 use native.Mathlib.Omega.{arith}
 use borrow.Author.Rules.{rules}
-use lib.ListN.{length}
-use Rattle.norx.proofs.Same.{Alike, alike_more, alike_all}
+use Rattle.norx.proofs.Same.{alike_more, alike_all}
 use Rattle.texts.proofs.same_bytes.Goals as goal
 
 pub loop-i-init : goal.loop-i-init

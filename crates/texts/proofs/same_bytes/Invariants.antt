@@ -1,10 +1,8 @@
 -- `texts::same_bytes`: after i bytes, what is left decides.
-use mathlib.Core.Path.{◌≡◌, refl}
+use mathlib.Core.Path.{◌≡◌}
 use Prim.Native.Nat.{◌-◌}
-use native.Mathlib.Omega.{arith}
-use borrow.Author.Rules.{rules}
 use lib.ListN.{length}
-use Rattle.norx.proofs.Same.{Alike, alike_more, alike_all}
+use Rattle.norx.proofs.Same.{Alike}
 use Rattle.texts.proofs.same_bytes.Given as goal
 
 abbrev pub invariant-loop-i : goal.invariant-loop-i

@@ -1,5 +1,4 @@
 -- `blocks32::blocks::open_block`: the message is written, and a full block of ciphertext becomes the new s0..s11.
-use borrow.Author.Rules.{rules}
 use mathlib.Core.Path.{refl, ◌∙◌}
 use Rattle.norx.specs.Norx.{word32, row_bytes, xor_block, rate_of}
 use Rattle.norx.proofs.Words.{length-bytes_of_row}

@@ -1,5 +1,4 @@
 -- `blocks32::blocks::seal_block`: three rows xored and written, one third each, and the fourth as it was.
-use borrow.Author.Rules.{rules}
 use mathlib.Core.Path.{refl}
 use Rattle.norx.specs.Norx.{word32, row_bytes, xor_block, rate_of}
 use Rattle.norx.proofs.Words.{length-bytes_of_row}

@@ -1,5 +1,4 @@
 -- `blocks32::blocks::store_rate` writes its three rows, one third each.
-use borrow.Author.Rules.{rules}
 use Rattle.norx.specs.Norx.{word32, row_bytes, rate_of}
 use Rattle.norx.proofs.Words.{length-bytes_of_row}
 use Rattle.norx.proofs.Slices.{thirds_of}

@@ -1,5 +1,4 @@
 -- `blocks32::ends::start`: the rows laid out, P, and the key.
-use borrow.Author.Rules.{rules}
 use mathlib.Core.Path.{◌≡◌, refl, ap, ◌∙◌}
 use Rattle.norx.specs.Norx.{word32, bits, tag_bits, p_of, State, row, rows, row_at, xor_row, constants, entered, keyed, start}
 use Rattle.norx.proofs.Slices.{list4}

@@ -1,5 +1,4 @@
 -- `blocks32::ends::tag`: the finish, and the bytes of the last row.
-use borrow.Author.Rules.{rules}
 use mathlib.Core.Path.{◌≡◌, sym, ap, ◌∙◌}
 use native.Mathlib.Nat.{le_of_eq}
 use lib.Seq.{take_all}

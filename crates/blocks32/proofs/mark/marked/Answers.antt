@@ -1,5 +1,4 @@
 -- `blocks32::mark::marked`: the last row xored with the mark's row, and the others as they were.
-use borrow.Author.Rules.{rules}
 use mathlib.Core.Path.{refl, ap, ◌∙◌}
 use Rattle.norx.specs.Norx.{word32, row_at, word_at, xor_row}
 use Rattle.norx.proofs.Slices.{list4}

@@ -1,5 +1,4 @@
 -- `blocks32::rows::seal_row`: the xored row, and its bytes.
-use borrow.Author.Rules.{rules}
 use mathlib.Core.Path.{◌≡◌, ap, ◌∙◌}
 use Rattle.norx.specs.Norx.{word32, bytes_of_row, xor_row}
 use Rattle.blocks32.proofs.rows.seal_row.Goals as goal

@@ -1,5 +1,4 @@
 -- `blocks32::rows::store_row` writes its four words, one quarter each.
-use borrow.Author.Rules.{rules}
 use Rattle.norx.specs.Norx.{word32, word_bytes, bytes_of_row}
 use Rattle.norx.proofs.Words.{length-bytes_of}
 use Rattle.norx.proofs.Slices.{quarters_of}

@@ -1,5 +1,4 @@
 -- `blocks32::turns::block_at` goes by the way.
-use borrow.Author.Rules.{rules}
 use Rattle.blocks32.proofs.turns.block_at.Goals as goal
 
 pub returns-then-opening : goal.returns-then-opening

@@ -1,5 +1,4 @@
 -- `blocks32::turns::enter_keyed` takes in a block of zeros, and then the key.
-use borrow.Author.Rules.{rules}
 use mathlib.Core.Path.{refl, ap, ◌∙◌}
 use lib.ListN.{replicate}
 use Rattle.norx.specs.Norx.{word32, rate, keyed}

@@ -1,5 +1,4 @@
 -- `blocks32::turns::seal_at`: the block in its place of the output, where it is asked for.
-use borrow.Author.Rules.{rules}
 use mathlib.Core.Path.{refl}
 use native.Mathlib.Omega.{arith}
 use Rattle.norx.specs.Norx.{word32, rate}

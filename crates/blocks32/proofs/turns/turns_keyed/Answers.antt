@@ -1,17 +1,16 @@
 -- `blocks32::turns::turns_keyed`: before the turn i the state has taken in i blocks, and what they give is written where it is asked for.
 use mathlib.Core.Path.{◌≡◌, refl, ap, ◌∙◌}
-use mathlib.Core.Bool.{Bool, cond}
-use mathlib.Core.List.{◌++◌}
-use Prim.Native.Nat.{◌-◌, ◌*◌, ◌/◌, ◌≤◌}
+use mathlib.Core.Bool.{Bool}
+use Prim.Native.Nat.{◌*◌, ◌/◌}
 use native.Mathlib.Omega.{arith}
 use borrow.Author.Rules.{rules}
 use borrow.Author.Tests.{eqb-true}
 use lib.Dec.{eqb}
-use lib.ListN.{length, drop}
+use lib.ListN.{length}
 use Rattle.norx.specs.Norx.{word32, rate, rate_of, xor_block, keyed}
 use Rattle.norx.proofs.Words.{length-rate_of}
 use Rattle.norx.proofs.Slices.{cut}
-use Rattle.norx.specs.Turns.{after_turns, shown}
+use Rattle.norx.specs.Turns.{after_turns}
 use Rattle.norx.proofs.Turns.{shown_none, turns_next, shown_next, length_show}
 use Rattle.rules.specs.Rules.{rounds_of}
 use Rattle.blocks32.specs.Marks.{mark_of}

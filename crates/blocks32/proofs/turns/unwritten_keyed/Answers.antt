@@ -1,5 +1,4 @@
 -- `blocks32::turns::unwritten_keyed` lends an output of no bytes.
-use borrow.Author.Rules.{rules}
 use Rattle.blocks32.proofs.turns.unwritten_keyed.Goals as goal
 
 pub returns : goal.returns

@@ -1,5 +1,4 @@
 -- `blocks64::blocks::replaced`: a full block of ciphertext becomes the new s0..s11, by the law on words that the machine holds.
-use borrow.Author.Rules.{rules}
 use mathlib.Core.Path.{refl, ◌∙◌}
 use Rattle.norx.specs.Norx.{word64}
 use Rattle.norx.proofs.Slices.{list4}

@@ -1,5 +1,4 @@
 -- `blocks64::blocks::xor_block`: three rows xored, and the fourth as it was.
-use borrow.Author.Rules.{rules}
 use mathlib.Core.Path.{refl, ap, ◌∙◌}
 use Rattle.norx.specs.Norx.{xor_row, row_at, xor_block}
 use Rattle.norx.proofs.Slices.{list4}

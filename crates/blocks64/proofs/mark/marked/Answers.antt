@@ -1,5 +1,4 @@
 -- `blocks64::mark::marked`: the code says what the definition says.
-use borrow.Author.Rules.{rules}
 use mathlib.Core.Path.{refl}
 use Rattle.norx.specs.Norx.{marked}
 use Rattle.blocks64.proofs.mark.marked.Goals as goal

@@ -1,5 +1,4 @@
 -- `blocks64::rows::load_row` loads its four words.
-use borrow.Author.Rules.{rules}
 use Rattle.norx.proofs.Slices.{list4}
 use Rattle.blocks64.proofs.rows.load_row.Goals as goal
 

@@ -1,5 +1,4 @@
 -- `blocks64::rows::open_row`: the bytes of the xored row, and the row that came.
-use borrow.Author.Rules.{rules}
 use mathlib.Core.Path.{ap, ◌∙◌}
 use Rattle.norx.specs.Norx.{word64, bytes_of_row, xor_row}
 use Rattle.blocks64.proofs.rows.open_row.Goals as goal

@@ -1,5 +1,4 @@
 -- `blocks64::rows::xor_row`: the code says what the definition says.
-use borrow.Author.Rules.{rules}
 use mathlib.Core.Path.{refl}
 use Rattle.norx.specs.Norx.{xor_row}
 use Rattle.blocks64.proofs.rows.xor_row.Goals as goal

@@ -1,5 +1,4 @@
 -- `blocks64::turns::keyed`: the last row xored, and the others as they were.
-use borrow.Author.Rules.{rules}
 use mathlib.Core.Path.{refl}
 use Rattle.norx.specs.Norx.{keyed}
 use Rattle.norx.proofs.Slices.{list4}

@@ -1,5 +1,4 @@
 -- `blocks64::turns::marked_and_permuted` is P after the mark.
-use borrow.Author.Rules.{rules}
 use mathlib.Core.Path.{ap, ◌∙◌}
 use Rattle.norx.specs.Norx.{word64, p_of, entered}
 use Rattle.rules.specs.Rules.{rounds_of}

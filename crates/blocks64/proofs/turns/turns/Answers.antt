@@ -1,6 +1,5 @@
 -- `blocks64::turns::turns`: a text with no full block changes nothing, and a key of zeros leaves the state as it is.
 use mathlib.Core.Path.{◌∙◌}
-use borrow.Author.Rules.{rules}
 use Rattle.norx.specs.Norx.{word64}
 use Rattle.norx.specs.Blocks.{fulls}
 use Rattle.norx.proofs.Owned.{whole_owned}

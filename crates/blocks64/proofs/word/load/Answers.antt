@@ -1,6 +1,5 @@
 -- `blocks64::word::load` is the word of all its bytes.
 use mathlib.Core.Path.{ap, ◌∙◌}
-use borrow.Author.Rules.{rules}
 use Rattle.norx.specs.Norx.{word_of}
 use Rattle.norx.proofs.Loads.{eight_is}
 use Rattle.blocks64.proofs.word.load.Goals as goal

@@ -1,6 +1,5 @@
 -- `blocks64::word::store` copies the word's bytes over all that were there.
 use mathlib.Core.Path.{sym, ap, ◌∙◌}
-use borrow.Author.Rules.{rules}
 use lib.ListN.{length}
 use Rattle.norx.specs.Norx.{word64, word_bytes}
 use Rattle.norx.proofs.Words.{length-bytes_of}

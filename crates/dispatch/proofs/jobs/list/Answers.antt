@@ -1,6 +1,5 @@
 -- `dispatch::jobs::list`: the library's own call.
 use Rattle.dispatch.specs.Segments.{list_call, list_call_out}
-use borrow.Author.Rules.{rules}
 use Rattle.dispatch.proofs.jobs.list.Goals as goal
 
 pub returns : goal.returns

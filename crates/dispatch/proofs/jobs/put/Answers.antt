@@ -2,7 +2,6 @@
 use mathlib.Core.Path.{ap, ◌∙◌}
 use Rattle.held.specs.Receivers.{held_put}
 use Rattle.dispatch.specs.Segments.{waiting_of, put_receiver_call}
-use borrow.Author.Rules.{rules}
 use Rattle.dispatch.proofs.jobs.put.Goals as goal
 
 pub returns : goal.returns

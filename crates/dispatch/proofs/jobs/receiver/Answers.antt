@@ -6,7 +6,6 @@ use lib.Dec.{eqb}
 use Rattle.held.specs.Receivers.{held_started}
 use Rattle.dispatch.specs.Calls.{stretch_of}
 use Rattle.dispatch.specs.Segments.{receiver_call}
-use borrow.Author.Rules.{rules}
 use Rattle.dispatch.proofs.jobs.receiver.Goals as goal
 
 pub returns : goal.returns

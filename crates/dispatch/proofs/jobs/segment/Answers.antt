@@ -4,7 +4,6 @@ use Rattle.answers.proofs.Runs.{one_outcome}
 use Rattle.segments.specs.Segments.{segment_answer_at, segment_runs_at, segment_out_at}
 use Rattle.dispatch.specs.Segments.{flag_of, segment_call, segment_call_out}
 use Rattle.dispatch.proofs.Same.{by_same_job}
-use borrow.Author.Rules.{rules}
 use Rattle.dispatch.proofs.jobs.segment.Goals as goal
 
 pub returns : goal.returns

@@ -4,7 +4,6 @@ use mathlib.Core.List.{List}
 use Prim.Native.Nat.{ℕ}
 use Rattle.held.specs.Receivers.{held_taken, held_taken_out}
 use Rattle.dispatch.specs.Segments.{flag_of, take_call, take_call_out}
-use borrow.Author.Rules.{rules}
 use Rattle.dispatch.proofs.jobs.take.Goals as goal
 
 pub returns : goal.returns

@@ -3,7 +3,6 @@ use mathlib.Core.Path.{sym, ap, ◌∙◌}
 use Rattle.answers.specs.declared.Answer.{Answer}
 use Rattle.dispatch.specs.Kept.{kept_all, unrun, kept_receiver, kept_session, kept_call, kept_out}
 use Rattle.dispatch.proofs.Number.{at_segment, at_receiver, at_take, at_list, at_session}
-use borrow.Author.Rules.{rules}
 use Rattle.dispatch.proofs.kept.call.Goals as goal
 
 pub returns-then-k-eq10 : goal.returns-then-k-eq10

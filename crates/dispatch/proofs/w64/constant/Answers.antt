@@ -2,7 +2,6 @@
 use mathlib.Core.Path.{refl}
 use Rattle.norx.specs.Norx.{word64}
 use Rattle.dispatch.proofs.Constants.{of_two_rounds, no_constant}
-use borrow.Author.Rules.{rules}
 use Rattle.dispatch.proofs.w64.constant.Goals as goal
 
 pub returns-then-i-lt16 : goal.returns-then-i-lt16

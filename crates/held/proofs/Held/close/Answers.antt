@@ -2,7 +2,6 @@
 use mathlib.Core.Path.{sym, ◌∙◌}
 use Rattle.answers.proofs.Tests.{cond_true, cond_false}
 use Rattle.held.specs.Held.{held_close, held_tag}
-use borrow.Author.Rules.{rules}
 use Rattle.held.proofs.Held.close.Goals as goal
 
 pub returns-then-self : goal.returns-then-self

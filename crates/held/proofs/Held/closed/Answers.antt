@@ -1,7 +1,6 @@
 -- `held::Held::closed`: put together.
 use mathlib.Core.Path.{ap}
 use Rattle.held.specs.Held.{held_at}
-use borrow.Author.Rules.{rules}
 use Rattle.held.proofs.Held.closed.Goals as goal
 
 pub returns : goal.returns

@@ -2,7 +2,6 @@
 use mathlib.Core.Path.{◌≡◌, sym, ◌∙◌}
 use Rattle.answers.proofs.Tests.{cond_true, cond_false}
 use Rattle.held.specs.Held.{side32, side64, piece_at, held_piece, held_piece_out}
-use borrow.Author.Rules.{rules}
 use Rattle.held.proofs.Held.piece.Goals as goal
 
 pub returns-then-self : goal.returns-then-self

@@ -3,7 +3,6 @@ use mathlib.Core.Path.{◌≡◌, sym, ap, ◌∙◌}
 use Rattle.answers.proofs.Tests.{cond_true, cond_false}
 use Rattle.held.specs.declared.Held.{Held}
 use Rattle.held.specs.Held.{side32, side64, closed_held, start_at, held_start}
-use borrow.Author.Rules.{rules}
 use Rattle.held.proofs.Held.start.Goals as goal
 
 pub returns-then-wide : goal.returns-then-wide

@@ -2,7 +2,6 @@
 use mathlib.Core.Path.{sym, ◌∙◌}
 use Rattle.answers.proofs.Tests.{cond_true, cond_false}
 use Rattle.held.specs.Held.{held_word}
-use borrow.Author.Rules.{rules}
 use Rattle.held.proofs.Held.word.Goals as goal
 
 pub returns-then-self : goal.returns-then-self

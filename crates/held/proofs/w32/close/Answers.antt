@@ -6,7 +6,6 @@ use Rattle.session32.specs.declared.check.CheckingClose.{CheckingClose}
 use Rattle.session32.specs.Kinds.{sealing32, checking32}
 use Rattle.held.specs.Held.{side32, close_at, close_tag_at}
 use Rattle.held.proofs.Sides.{step_of_close, tag_of_close}
-use borrow.Author.Rules.{rules}
 use Rattle.held.proofs.w32.close.Goals as goal
 
 pub returns-then-h : goal.returns-then-h

@@ -4,7 +4,6 @@ use Rattle.answers.proofs.Tests.{cond_true, cond_false}
 use Rattle.session32.specs.Kinds.{sealing32, checking32}
 use Rattle.held.specs.Held.{side32, piece_at, piece_out_at}
 use Rattle.held.proofs.Sides.{step_of_piece, out_of_piece}
-use borrow.Author.Rules.{rules}
 use Rattle.held.proofs.w32.piece.Goals as goal
 
 pub returns-then-h : goal.returns-then-h

@@ -2,7 +2,6 @@
 use mathlib.Core.Path.{refl}
 use Rattle.held.specs.Held.{side32}
 use Rattle.held.proofs.Sides.{word_of_state, word_of_key, no_word}
-use borrow.Author.Rules.{rules}
 use Rattle.held.proofs.w32.word.Goals as goal
 
 pub returns-then-i-lt16 : goal.returns-then-i-lt16

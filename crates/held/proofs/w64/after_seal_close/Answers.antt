@@ -1,6 +1,5 @@
 -- `held::w64::after_seal_close`: the session that is held, with the answer and the runs of the close.
 use mathlib.Core.Path.{ap}
-use borrow.Author.Rules.{rules}
 use Rattle.held.specs.declared.HeldStep.{HeldStep}
 use Rattle.held.proofs.w64.after_seal_close.Goals as goal
 

@@ -6,7 +6,6 @@ use Rattle.session64.specs.declared.check.CheckingClose.{CheckingClose}
 use Rattle.session64.specs.Kinds.{sealing64, checking64}
 use Rattle.held.specs.Held.{side64, close_at, close_tag_at}
 use Rattle.held.proofs.Sides.{step_of_close, tag_of_close}
-use borrow.Author.Rules.{rules}
 use Rattle.held.proofs.w64.close.Goals as goal
 
 pub returns-then-h : goal.returns-then-h

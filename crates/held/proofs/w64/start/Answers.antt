@@ -4,7 +4,6 @@ use Rattle.answers.proofs.Tests.{cond_true, cond_false}
 use Rattle.session64.specs.Kinds.{sealing64, checking64}
 use Rattle.held.specs.Held.{side64, start_at}
 use Rattle.held.proofs.Sides.{step_of_start}
-use borrow.Author.Rules.{rules}
 use Rattle.held.proofs.w64.start.Goals as goal
 
 pub returns-then-h : goal.returns-then-h

@@ -1,6 +1,5 @@
 -- `lists::line::alike`: two parts of the text, compared.
 use mathlib.Core.Path.{ap₂, ◌∙◌}
-use borrow.Author.Rules.{rules}
 use Rattle.norx.specs.Norx.{same}
 use Rattle.norx.proofs.Slices.{cut}
 use Rattle.lists.proofs.line.alike.Goals as goal

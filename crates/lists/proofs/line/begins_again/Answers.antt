@@ -2,8 +2,6 @@
 use mathlib.Core.Path.{◌≡◌, refl, sym, ◌∙◌}
 use Prim.Native.Nat.{◌+◌, ◌-◌, ◌≤◌}
 use native.Mathlib.Omega.{arith}
-use borrow.Author.Rules.{rules}
-use lib.ListN.{take, drop}
 use Rattle.decimal.proofs.Runs.{tested, tested_not}
 use Rattle.lists.proofs.Parts.{alike_more, alike_not, alike_last}
 use Rattle.lists.proofs.line.begins_again.Goals as goal

@@ -1,11 +1,7 @@
 -- `lists::line::begins_again`: before each turn the first i bytes are alike.
-use mathlib.Core.Path.{◌≡◌, refl, sym, ◌∙◌}
-use Prim.Native.Nat.{◌+◌, ◌-◌, ◌≤◌}
-use native.Mathlib.Omega.{arith}
-use borrow.Author.Rules.{rules}
+use mathlib.Core.Path.{◌≡◌}
+use Prim.Native.Nat.{◌-◌, ◌≤◌}
 use lib.ListN.{take, drop}
-use Rattle.decimal.proofs.Runs.{tested, tested_not}
-use Rattle.lists.proofs.Parts.{alike_more, alike_not, alike_last}
 use Rattle.lists.proofs.line.begins_again.Given as goal
 
 abbrev pub invariant-loop-i : goal.invariant-loop-i

@@ -1,7 +1,6 @@
 -- `lists::line::first_ok`: index 0, and a length that a segment can have.
 use mathlib.Core.Path.{ap}
 use mathlib.Core.Bool.{Bool, ◌&&◌}
-use borrow.Author.Rules.{rules}
 use lib.Dec.{eqb}
 use Rattle.lists.specs.Places.{is_first}
 use Rattle.lists.proofs.line.first_ok.Goals as goal

@@ -1,6 +1,5 @@
 -- `lists::line::line_at`: four parts, each behind the one before.
 use mathlib.Core.Path.{subst}
-use borrow.Author.Rules.{rules}
 use Rattle.fields.specs.Fields.{tab, newline}
 use Rattle.lists.specs.Places.{PartIs}
 use Rattle.lists.proofs.Parts.{no_job, no_revision, no_index, no_body, is_line}

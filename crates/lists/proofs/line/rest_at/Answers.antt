@@ -1,6 +1,5 @@
 -- `lists::line::rest_at`: the index, and then the body length.
 use mathlib.Core.Path.{subst}
-use borrow.Author.Rules.{rules}
 use Rattle.decimal.proofs.Runs.{tested, tested_not}
 use Rattle.fields.specs.Fields.{tab, newline}
 use Rattle.lists.specs.Places.{PartIs}

@@ -1,7 +1,6 @@
 -- `lists::line::segment_at`: the text's front again, and the rest behind it.
 use Prim.Native.Nat.{◌+◌, ◌≤◌}
 use native.Mathlib.Omega.{arith}
-use borrow.Author.Rules.{rules}
 use lib.ListN.{length}
 use Rattle.decimal.proofs.Runs.{tested, tested_not}
 use Rattle.lists.proofs.Parts.{front_cut, front_other, front_same}

@@ -3,7 +3,6 @@ use mathlib.Core.Path.{ap, ◌∙◌}
 use mathlib.Core.List.{[], ◌∷◌}
 use native.Mathlib.Omega.{arith}
 use native.Mathlib.Nat.{lt_of_lt_of_le, zero-add}
-use borrow.Author.Rules.{rules}
 use lib.Dec.{lit≤}
 use lib.ListN.{length, length-append}
 use Rattle.decimal.specs.Decimal.{num_text}

@@ -1,6 +1,5 @@
 -- `lists::put::front_length`: two numbers and two tabs.
 use native.Mathlib.Omega.{arith}
-use borrow.Author.Rules.{rules}
 use Rattle.lists.proofs.OneLine.{front_length}
 use Rattle.lists.proofs.put.front_length.Goals as goal
 

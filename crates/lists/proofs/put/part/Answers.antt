@@ -1,7 +1,6 @@
 -- `lists::put::part`: a number laid, and the byte behind it.
 use mathlib.Core.Path.{ap}
 use native.Mathlib.Omega.{arith}
-use borrow.Author.Rules.{rules}
 use lib.ListN.{length}
 use Rattle.decimal.specs.Decimal.{num_text}
 use Rattle.decimal.proofs.Lay.{put_room, length_laid}

@@ -1,6 +1,6 @@
 -- `permutation32::rounds::permute` is P: before the turn i the state has gone through i rounds, and another is due.
 use mathlib.Core.Path.{◌≡◌, refl, ap, ◌∙◌}
-use Prim.Native.Nat.{ℕ, suc, ◌+◌, ◌-◌, ◌≤◌}
+use Prim.Native.Nat.{ℕ, suc, ◌+◌, ◌-◌}
 use native.Mathlib.Omega.{arith}
 use borrow.Author.Rules.{rules}
 use Rattle.norx.specs.Norx.{word32, p_of}

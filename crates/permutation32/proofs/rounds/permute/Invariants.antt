@@ -1,10 +1,7 @@
 -- `permutation32::rounds::permute` is P: before the turn i the state has gone through i rounds, and another is due.
-use mathlib.Core.Path.{◌≡◌, refl, ap, ◌∙◌}
-use Prim.Native.Nat.{ℕ, suc, ◌+◌, ◌-◌, ◌≤◌}
-use native.Mathlib.Omega.{arith}
-use borrow.Author.Rules.{rules}
+use mathlib.Core.Path.{◌≡◌}
+use Prim.Native.Nat.{◌-◌, ◌≤◌}
 use Rattle.norx.specs.Norx.{word32, p_of}
-use Rattle.norx.proofs.Steps.{by_round}
 use Rattle.permutation32.proofs.rounds.permute.Given as goal
 
 abbrev pub invariant-loop-i : goal.invariant-loop-i

@@ -1,6 +1,5 @@
 -- `permutation32::row::row_step`: the four columns' steps laid out in rows.
 use mathlib.Core.List.{[], ◌∷◌}
-use borrow.Author.Rules.{rules}
 use Rattle.norx.specs.Norx.{row, word_at, xor_row}
 use Rattle.norx.specs.Rows.{h_row, ror_row}
 use Rattle.permutation32.proofs.row.row_step.Goals as goal

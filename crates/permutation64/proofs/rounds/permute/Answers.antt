@@ -1,6 +1,5 @@
 -- `permutation64::rounds::permute` is P: before the turn i the state has gone through i rounds.
 use mathlib.Core.Path.{◌≡◌, refl}
-use Prim.Native.Nat.{◌≤◌, ◌-◌}
 use native.Mathlib.Omega.{arith}
 use borrow.Author.Rules.{rules}
 use Rattle.norx.specs.Norx.{word64, p_of}

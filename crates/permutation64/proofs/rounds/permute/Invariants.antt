@@ -1,10 +1,7 @@
 -- `permutation64::rounds::permute` is P: before the turn i the state has gone through i rounds.
-use mathlib.Core.Path.{◌≡◌, refl}
+use mathlib.Core.Path.{◌≡◌}
 use Prim.Native.Nat.{◌≤◌, ◌-◌}
-use native.Mathlib.Omega.{arith}
-use borrow.Author.Rules.{rules}
 use Rattle.norx.specs.Norx.{word64, p_of}
-use Rattle.norx.proofs.Steps.{by_round}
 use Rattle.permutation64.proofs.rounds.permute.Given as goal
 
 abbrev pub invariant-loop-i : goal.invariant-loop-i

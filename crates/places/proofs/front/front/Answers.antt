@@ -2,7 +2,6 @@
 use mathlib.Core.Path.{◌≡◌}
 use mathlib.Core.List.{[], ◌∷◌}
 use lib.ListN.{get_or}
-use borrow.Author.Rules.{rules}
 use Rattle.norx.specs.Norx.{bytes_of}
 use Rattle.norx.specs.Front.{eight_bytes, front}
 use Rattle.places.specs.Terms.{front_of}

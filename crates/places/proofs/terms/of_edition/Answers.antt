@@ -1,6 +1,5 @@
 -- `places::terms::of_edition` is the chain of its definition.
 use mathlib.Core.Path.{refl}
-use borrow.Author.Rules.{rules}
 use Rattle.answers.specs.declared.Answer.TheVariants.{OtherRevision, OtherJob}
 use Rattle.answers.proofs.Chain.{link}
 use Rattle.places.specs.Terms.{of_edition}

@@ -1,7 +1,6 @@
 -- `rules::calls::open_checks` is the chain of its definition, link by link.
 use mathlib.Core.Path.{refl, ap, ◌∙◌}
 use Prim.Native.Nat.{ℕ}
-use borrow.Author.Rules.{rules}
 use lib.Dec.{eqb}
 use Rattle.answers.specs.declared.Answer.TheVariants.{RoundsNumber, KeyLength, TagLength, OverLimit, OutputLength}
 use Rattle.answers.proofs.Chain.{link}

@@ -1,6 +1,5 @@
 -- `rules::calls::seal_checks` is the chain of its definition, link by link.
 use mathlib.Core.Path.{refl}
-use borrow.Author.Rules.{rules}
 use Rattle.answers.specs.declared.Answer.TheVariants.{RoundsNumber, KeyLength, OverLimit, OutputLength}
 use Rattle.answers.proofs.Chain.{link}
 use Rattle.rules.specs.Calls.{seal_checks}

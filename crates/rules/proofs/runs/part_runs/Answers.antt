@@ -1,7 +1,6 @@
 -- `rules::runs::part_runs`: none of an empty part, and else floor(n/R) + 1.
 use native.Mathlib.Nat.{div-le_self}
 use native.Mathlib.Omega.{arith}
-use borrow.Author.Rules.{rules}
 use Rattle.rules.proofs.Work.{part_none, part_some}
 use Rattle.rules.proofs.runs.part_runs.Goals as goal
 

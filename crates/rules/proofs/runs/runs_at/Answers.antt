@@ -1,8 +1,6 @@
 -- `rules::runs::runs_at`: 3, and those of the three parts.
 use mathlib.Core.Path.{sym, ◌∙◌}
 use native.Mathlib.Omega.{arith}
-use borrow.Author.Rules.{rules}
-use borrow.Author.Tests.{not-true, not-false}
 use Rattle.rules.proofs.Limits.{parts_from}
 use Rattle.rules.proofs.Work.{runs_none, runs_some}
 use Rattle.rules.proofs.runs.runs_at.Goals as goal

@@ -1,7 +1,6 @@
 -- `sealing::body32::judged` goes by the comparison.
 use mathlib.Core.Path.{◌≡◌, sym, ◌∙◌}
 use mathlib.Core.Bool.{true, false}
-use borrow.Author.Rules.{rules}
 use Rattle.norx.specs.Norx.{same}
 use Rattle.answers.proofs.Tests.{cond_true, cond_false}
 use Rattle.sealing.proofs.body32.judged.Goals as goal

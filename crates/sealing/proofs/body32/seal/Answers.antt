@@ -1,7 +1,6 @@
 -- `sealing::body32::seal`: what its calls leave is ciphertext and tag, whether there is a trailer or not.
 use mathlib.Core.Path.{◌≡◌, sym, ◌∙◌}
 use Prim.Native.Nat.{◌+◌}
-use borrow.Author.Rules.{rules}
 use borrow.Author.Tests.{eq-eqb, ne_eqb}
 use lib.ListN.{length}
 use Rattle.norx.specs.Norx.{word32, trailer_mark}

@@ -1,7 +1,6 @@
 -- `sealing::body64::open`: what its calls leave is the message where the tags are the same, and else zeros, whether there is a trailer or not.
-use mathlib.Core.Path.{◌≡◌, refl, sym}
+use mathlib.Core.Path.{refl, sym}
 use Prim.Native.Nat.{◌+◌}
-use borrow.Author.Rules.{rules}
 use borrow.Author.Tests.{ne_eqb}
 use lib.ListN.{length}
 use Rattle.norx.specs.Norx.{word64, trailer_mark}

@@ -1,7 +1,5 @@
 -- `sealing::w32::open` goes by its checks.
 use mathlib.Core.Path.{◌≡◌}
-use borrow.Author.Rules.{rules}
-use borrow.Author.Tests.{not-true, not-false}
 use lib.ListN.{length}
 use Rattle.norx.specs.Norx.{word32, row_bytes}
 use Rattle.norx.specs.Texts.{Bytes}

@@ -1,5 +1,4 @@
 -- `sealing::w64::before_body`: the start, and the header.
-use borrow.Author.Rules.{rules}
 use mathlib.Core.Path.{ap, ◌∙◌}
 use Rattle.norx.specs.Norx.{word64, State, header_mark, after_part}
 use Rattle.rules.specs.Rules.{rounds_of}

@@ -1,5 +1,4 @@
 -- `sealing::w64::open_checked`: the text opened from the state behind the header.
-use borrow.Author.Rules.{rules}
 use mathlib.Core.Path.{ap, ◌∙◌}
 use mathlib.Core.List.{List}
 use Prim.Native.Nat.{ℕ}

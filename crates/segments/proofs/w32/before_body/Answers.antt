@@ -2,7 +2,6 @@
 use mathlib.Core.Path.{◌≡◌}
 use Rattle.rules.specs.Rules.{rounds_of}
 use Rattle.rules.proofs.Limits.{rounds_asked}
-use borrow.Author.Rules.{rules}
 use Rattle.norx.specs.Norx.{word32}
 use Rattle.norx.specs.Texts.{Bytes}
 use Rattle.segments.proofs.States.{header_of}

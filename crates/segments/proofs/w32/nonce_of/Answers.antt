@@ -2,7 +2,6 @@
 use mathlib.Core.Path.{ap, ◌∙◌}
 use mathlib.Core.List.{List, ◌++◌}
 use Prim.Native.Nat.{ℕ}
-use borrow.Author.Rules.{rules}
 use Rattle.segments.specs.Segments.{segment_nonce}
 use Rattle.segments.proofs.w32.nonce_of.Goals as goal
 

@@ -1,7 +1,5 @@
 -- `segments::w32::seal` goes by its checks.
 use mathlib.Core.Path.{sym, ap, ◌∙◌}
-use borrow.Author.Rules.{rules}
-use borrow.Author.Tests.{not-true, not-false}
 use Rattle.norx.specs.Norx.{word32}
 use Rattle.answers.specs.declared.Outcome.{Outcome}
 use Rattle.answers.proofs.Chain.{tested}

@@ -2,7 +2,6 @@
 use mathlib.Core.Path.{◌≡◌}
 use Rattle.rules.specs.Rules.{rounds_of}
 use Rattle.rules.proofs.Limits.{rounds_asked}
-use borrow.Author.Rules.{rules}
 use Rattle.norx.specs.Norx.{word64}
 use Rattle.segments.proofs.States.{segment_opened_of}
 use Rattle.segments.proofs.w64.open_checked.Goals as goal

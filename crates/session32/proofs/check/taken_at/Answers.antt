@@ -6,7 +6,6 @@ use Rattle.session.specs.Sessions.{checking}
 use Rattle.session.proofs.Parts.{taken_at_of}
 use Rattle.rules.specs.Rules.{rounds_of}
 use Rattle.rules.proofs.Limits.{rounds_asked}
-use borrow.Author.Rules.{rules}
 use Rattle.session32.proofs.check.taken_at.Goals as goal
 
 pub returns-in-Note : goal.returns-in-Note

@@ -4,7 +4,6 @@ use Rattle.norx.specs.Norx.{word32}
 use Rattle.session.specs.Sessions.{end_if}
 use Rattle.rules.specs.Rules.{rounds_of}
 use Rattle.rules.proofs.Limits.{rounds_asked}
-use borrow.Author.Rules.{rules}
 use Rattle.session32.proofs.parts.end_if.Goals as goal
 
 pub returns-then-due : goal.returns-then-due

@@ -3,7 +3,6 @@ use mathlib.Core.Path.{◌≡◌, ap, ◌∙◌}
 use Rattle.norx.specs.Norx.{word32, tag_bits, tag_of}
 use Rattle.rules.specs.Rules.{rounds_of}
 use Rattle.rules.proofs.Limits.{rounds_asked}
-use borrow.Author.Rules.{rules}
 use Rattle.session32.proofs.parts.own_tag.Goals as goal
 
 pub returns : goal.returns

@@ -1,7 +1,6 @@
 -- `session32::parts::readied`: the three parts in their order.
 use Rattle.norx.specs.Norx.{word32}
 use Rattle.session.proofs.Parts.{readied_of}
-use borrow.Author.Rules.{rules}
 use Rattle.session32.proofs.parts.readied.Goals as goal
 
 pub returns : goal.returns

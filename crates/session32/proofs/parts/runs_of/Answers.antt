@@ -1,6 +1,5 @@
 -- `session32::parts::runs_of`: by the counts, where the note is within its limit.
 use mathlib.Core.Path.{sym, ◌∙◌}
-use borrow.Author.Rules.{rules}
 use borrow.Author.Tests.{le-leb, lt-leb}
 use Rattle.answers.proofs.Tests.{cond_true, cond_false}
 use Rattle.places.specs.declared.Part.TheVariants.{Note}

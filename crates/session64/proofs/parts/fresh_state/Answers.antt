@@ -4,7 +4,6 @@ use Rattle.norx.specs.Norx.{word64, tag_bits}
 use Rattle.session.proofs.Parts.{fresh_of_lem}
 use Rattle.rules.specs.Rules.{rounds_of}
 use Rattle.rules.proofs.Limits.{rounds_asked}
-use borrow.Author.Rules.{rules}
 use Rattle.session64.proofs.parts.fresh_state.Goals as goal
 
 pub returns : goal.returns

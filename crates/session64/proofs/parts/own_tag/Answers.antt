@@ -3,7 +3,6 @@ use mathlib.Core.Path.{◌≡◌, ap, ◌∙◌}
 use Rattle.norx.specs.Norx.{word64, tag_bits, tag_of}
 use Rattle.rules.specs.Rules.{rounds_of}
 use Rattle.rules.proofs.Limits.{rounds_asked}
-use borrow.Author.Rules.{rules}
 use Rattle.session64.proofs.parts.own_tag.Goals as goal
 
 pub returns : goal.returns

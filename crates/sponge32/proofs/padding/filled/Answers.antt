@@ -1,5 +1,4 @@
 -- `sponge32::padding::filled` copies the bytes into zeros.
-use borrow.Author.Rules.{rules}
 use Rattle.norx.specs.Norx.{word32, rate}
 use Rattle.norx.proofs.Overlay.{filled_of}
 use Rattle.sponge32.proofs.padding.filled.Goals as goal

@@ -1,5 +1,4 @@
 -- `sponge32::padding::padded` xors two bytes into the filled block.
-use borrow.Author.Rules.{rules}
 use mathlib.Core.Path.{refl}
 use Rattle.norx.specs.Norx.{word32, rate}
 use Rattle.norx.proofs.Overlay.{padded_of}

@@ -1,5 +1,4 @@
 -- `sponge32::parts::absorb`: nothing of an empty part, else its full blocks and the padded one.
-use borrow.Author.Rules.{rules}
 use mathlib.Core.Path.{◌≡◌, refl}
 use Prim.Native.Nat.{◌*◌, ◌/◌}
 use native.Mathlib.Omega.{arith}

@@ -1,5 +1,4 @@
 -- `sponge32::parts::absorb_last`: the padded block xored in after the mark and P.
-use borrow.Author.Rules.{rules}
 use mathlib.Core.Path.{ap, ◌∙◌}
 use Rattle.norx.specs.Norx.{word32, xor_block, entered}
 use Rattle.rules.specs.Rules.{rounds_of}

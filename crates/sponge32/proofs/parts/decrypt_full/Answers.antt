@@ -1,5 +1,4 @@
 -- `sponge32::parts::decrypt_full`: the message of every full block written, and taken in.
-use borrow.Author.Rules.{rules}
 use mathlib.Core.Path.{◌∙◌}
 use Prim.Native.Nat.{◌*◌, ◌/◌}
 use lib.ListN.{length, drop}

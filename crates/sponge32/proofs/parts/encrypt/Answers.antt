@@ -1,5 +1,4 @@
 -- `sponge32::parts::encrypt` goes by the lengths.
-use borrow.Author.Rules.{rules}
 use borrow.Author.Tests.{eq-eqb, ne_eqb}
 use lib.ListN.{length}
 use Rattle.sponge32.proofs.parts.encrypt.Goals as goal

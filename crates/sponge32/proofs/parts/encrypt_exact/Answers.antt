@@ -1,5 +1,4 @@
 -- `sponge32::parts::encrypt_exact`: the full blocks, and behind them the bytes left.
-use borrow.Author.Rules.{rules}
 use mathlib.Core.Path.{refl, sym, ◌∙◌}
 use Prim.Native.Nat.{◌*◌, ◌/◌}
 use lib.ListN.{length, take}

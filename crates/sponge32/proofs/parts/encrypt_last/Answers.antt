@@ -1,5 +1,4 @@
 -- `sponge32::parts::encrypt_last`: as many bytes of the new rate as were left.
-use borrow.Author.Rules.{rules}
 use mathlib.Core.Path.{sym, ap, ◌∙◌}
 use native.Mathlib.Omega.{arith}
 use lib.ListN.{length, take}

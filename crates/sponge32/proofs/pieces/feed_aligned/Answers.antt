@@ -1,5 +1,4 @@
 -- `sponge32::pieces::feed_aligned`: the full blocks, and the bytes left.
-use borrow.Author.Rules.{rules}
 use Prim.Native.Nat.{◌*◌, ◌/◌}
 use lib.ListN.{length}
 use Rattle.norx.specs.Norx.{word32, rate}

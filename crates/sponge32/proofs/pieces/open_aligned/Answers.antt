@@ -1,5 +1,4 @@
 -- `sponge32::pieces::open_aligned`: the full blocks, and the bytes left.
-use borrow.Author.Rules.{rules}
 use mathlib.Core.Path.{◌∙◌}
 use Prim.Native.Nat.{◌*◌, ◌/◌}
 use native.Mathlib.Omega.{arith}

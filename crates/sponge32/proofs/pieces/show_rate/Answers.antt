@@ -1,6 +1,5 @@
 -- `sponge32::pieces::show_rate` copies a part of the rate.
-use borrow.Author.Rules.{rules}
-use Rattle.norx.specs.Norx.{word32, rate}
+use Rattle.norx.specs.Norx.{word32}
 use Rattle.norx.proofs.FedText.{written_rate}
 use Rattle.sponge32.proofs.pieces.show_rate.Goals as goal
 

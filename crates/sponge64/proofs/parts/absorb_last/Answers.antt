@@ -1,5 +1,4 @@
 -- `sponge64::parts::absorb_last`: the padded block xored in after the mark and P.
-use borrow.Author.Rules.{rules}
 use mathlib.Core.Path.{ap, ◌∙◌}
 use Rattle.norx.specs.Norx.{word64, xor_block, entered}
 use Rattle.rules.specs.Rules.{rounds_of}

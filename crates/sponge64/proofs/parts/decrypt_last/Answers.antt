@@ -1,5 +1,4 @@
 -- `sponge64::parts::decrypt_last`: the bytes left xored with the rate are their message, which the state takes in with its padding.
-use borrow.Author.Rules.{rules}
 use mathlib.Core.Path.{◌≡◌, sym, ap, ap₂, ◌∙◌}
 use mathlib.Core.List.{List}
 use Prim.Native.Nat.{ℕ}

@@ -1,5 +1,4 @@
 -- `sponge64::parts::encrypt_full`: every full block taken in as it is, and the new rate written.
-use borrow.Author.Rules.{rules}
 use mathlib.Core.Path.{◌∙◌}
 use Prim.Native.Nat.{◌*◌, ◌/◌}
 use lib.ListN.{length, drop}

@@ -1,5 +1,4 @@
 -- `sponge64::pieces::end`: nothing after no bytes, else the padding at the place that they reached.
-use borrow.Author.Rules.{rules}
 use mathlib.Core.Path.{◌≡◌}
 use Prim.Native.Nat.{◌%◌}
 use native.Mathlib.Omega.{arith}

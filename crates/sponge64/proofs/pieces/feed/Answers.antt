@@ -1,5 +1,4 @@
 -- `sponge64::pieces::feed`: the bytes that go on in a block, and the rest.
-use borrow.Author.Rules.{rules}
 use mathlib.Core.Path.{ap}
 use Prim.Native.Nat.{ℕ, ◌-◌}
 use native.Mathlib.Nat.{sub-zero}

@@ -1,5 +1,4 @@
 -- `sponge64::pieces::feed_filling`: nothing of no bytes, else one xor at their place.
-use borrow.Author.Rules.{rules}
 use Rattle.norx.specs.Norx.{word64}
 use Rattle.norx.proofs.Fed.{fed_none, filling_of}
 use Rattle.rules.specs.Rules.{rounds_of}

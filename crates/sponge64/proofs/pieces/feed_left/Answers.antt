@@ -1,5 +1,4 @@
 -- `sponge64::pieces::feed_left`: nothing of no bytes, else the mark, P, and one xor.
-use borrow.Author.Rules.{rules}
 use Rattle.norx.specs.Norx.{word64}
 use Rattle.norx.proofs.Fed.{fed_none, fresh_of_lem}
 use Rattle.rules.specs.Rules.{rounds_of}

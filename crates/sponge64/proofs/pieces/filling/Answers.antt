@@ -1,5 +1,4 @@
 -- `sponge64::pieces::filling`: the room of a block that has bytes, or all that there is.
-use borrow.Author.Rules.{rules}
 use mathlib.Core.Logic.{inl, inr}
 use native.Mathlib.Omega.{arith}
 use Rattle.sponge64.proofs.pieces.filling.Goals as goal

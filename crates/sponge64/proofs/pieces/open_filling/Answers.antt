@@ -1,7 +1,6 @@
 -- `sponge64::pieces::open_filling`: nothing of no bytes, else the message at its place.
-use borrow.Author.Rules.{rules}
 use lib.ListN.{length}
-use Rattle.norx.specs.Norx.{word64, rate}
+use Rattle.norx.specs.Norx.{word64}
 use Rattle.norx.proofs.Slices.{cut}
 use Rattle.norx.proofs.Unfed.{unfed_none, unfed_filling}
 use Rattle.rules.specs.Rules.{rounds_of}

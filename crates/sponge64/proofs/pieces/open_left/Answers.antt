@@ -1,10 +1,9 @@
 -- `sponge64::pieces::open_left`: nothing of no bytes, else the mark, P, and the message.
-use borrow.Author.Rules.{rules}
 use mathlib.Core.Path.{ap}
 use Prim.Native.Nat.{ℕ}
 use native.Mathlib.Nat.{sub-zero}
 use lib.ListN.{length, take}
-use Rattle.norx.specs.Norx.{word64, rate}
+use Rattle.norx.specs.Norx.{word64}
 use Rattle.norx.proofs.Unfed.{unfed_none, unfed_fresh}
 use Rattle.rules.specs.Rules.{rounds_of}
 use Rattle.sponge64.proofs.pieces.open_left.Goals as goal

@@ -1,5 +1,4 @@
 -- `sponge64::pieces::placed` copies the bytes to their place in zeros.
-use borrow.Author.Rules.{rules}
 use Rattle.norx.specs.Norx.{word64, rate}
 use Rattle.norx.proofs.Fed.{placed_of}
 use Rattle.sponge64.proofs.pieces.placed.Goals as goal

@@ -1,5 +1,4 @@
 -- `sponge64::pieces::seal` goes by the lengths.
-use borrow.Author.Rules.{rules}
 use borrow.Author.Tests.{eq-eqb, ne_eqb}
 use lib.ListN.{length}
 use Rattle.sponge64.proofs.pieces.seal.Goals as goal

@@ -1,5 +1,4 @@
 -- `sponge64::pieces::seal_filling`: the bytes taken in, and the rate at their place.
-use borrow.Author.Rules.{rules}
 use Rattle.norx.specs.Norx.{word64}
 use Rattle.norx.proofs.FedText.{written_filling}
 use Rattle.rules.specs.Rules.{rounds_of}

@@ -1,5 +1,4 @@
 -- `sponge64::pieces::seal_left`: the bytes taken in, and the rate from its beginning.
-use borrow.Author.Rules.{rules}
 use Rattle.norx.specs.Norx.{word64}
 use native.Mathlib.Omega.{arith}
 use Rattle.norx.proofs.Blocks.{rate_pos}

@@ -1,6 +1,5 @@
 -- `sponge64::pieces::show_rate` copies a part of the rate.
-use borrow.Author.Rules.{rules}
-use Rattle.norx.specs.Norx.{word64, rate}
+use Rattle.norx.specs.Norx.{word64}
 use Rattle.norx.proofs.FedText.{written_rate}
 use Rattle.sponge64.proofs.pieces.show_rate.Goals as goal
 

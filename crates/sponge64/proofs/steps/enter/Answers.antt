@@ -1,5 +1,4 @@
 -- `sponge64::steps::enter` takes in a block of zeros.
-use borrow.Author.Rules.{rules}
 use mathlib.Core.Path.{◌∙◌}
 use Rattle.norx.specs.Norx.{word64}
 use Rattle.norx.proofs.Owned.{whole_owned}

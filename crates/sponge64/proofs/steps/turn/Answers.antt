@@ -1,5 +1,4 @@
 -- `sponge64::steps::turn` is one turn, of which nothing is written.
-use borrow.Author.Rules.{rules}
 use mathlib.Core.Path.{◌≡◌, ap, ◌∙◌}
 use mathlib.Core.Bool.{false}
 use Prim.Native.Nat.{◌/◌}

@@ -1,5 +1,4 @@
 -- `sponge64::steps::xor_block` has the length that `xored` asks for.
-use borrow.Author.Rules.{rules}
 use lib.ListN.{length}
 use Rattle.norx.specs.Norx.{word64, rate, xor_block}
 use Rattle.answers.proofs.Tests.{cond_equal}

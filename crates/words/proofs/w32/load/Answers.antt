@@ -1,5 +1,4 @@
 -- `words::w32::load` adds its four bytes up.
-use borrow.Author.Rules.{rules}
 use native.Mathlib.Omega.{arith}
 use Rattle.norx.proofs.Loads.{word4}
 use Rattle.words.proofs.w32.load.Goals as goal

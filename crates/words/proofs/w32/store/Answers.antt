@@ -1,5 +1,4 @@
 -- `words::w32::store` divides its four bytes out.
-use borrow.Author.Rules.{rules}
 use Rattle.norx.proofs.Loads.{bytes4}
 use Rattle.words.proofs.w32.store.Goals as goal
 

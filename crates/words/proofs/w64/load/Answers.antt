@@ -1,5 +1,4 @@
 -- `words::w64::load` adds its two halves up.
-use borrow.Author.Rules.{rules}
 use mathlib.Core.Path.{◌≡◌, ◌∙◌}
 use Prim.Native.Nat.{◌+◌, ◌*◌}
 use Rattle.norx.specs.Norx.{word_of, row, word_at}

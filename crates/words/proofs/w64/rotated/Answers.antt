@@ -1,7 +1,6 @@
 -- `words::w64::rotated` is the rotation, by the laws at this width.
 use Prim.Native.Nat.{◌-◌, ◌%◌}
 use native.Mathlib.Omega.{arith}
-use borrow.Author.Rules.{rules}
 use Rattle.norx.specs.Norx.{word64}
 use Rattle.norx.proofs.Rotate.{by_shifts, by_none}
 use Rattle.words.proofs.w64.rotated.Goals as goal

@@ -4,7 +4,6 @@ use mathlib.Core.Bool.{Bool}
 use Rattle.segments.specs.declared.receiver32.Receiver.{Receiver as Receiver32}
 use Rattle.segments.specs.declared.receiver64.Receiver.{Receiver as Receiver64}
 use Rattle.held.specs.declared.receiver.HeldReceiver.{HeldReceiver}
-use borrow.Author.Rules.{rules}
 use Rattle.held.proofs.receiver.HeldReceiver.none.Goals as goal
 
 abbrev made : Bool → Receiver32 → Receiver64 → HeldReceiver

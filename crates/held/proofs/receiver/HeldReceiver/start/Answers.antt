@@ -2,7 +2,6 @@
 use mathlib.Core.Path.{◌≡◌, sym, ap₂, ◌∙◌}
 use Rattle.answers.proofs.Tests.{cond_true, cond_false}
 use Rattle.held.specs.Receivers.{narrow_step, broad_step, held_none, held_started}
-use borrow.Author.Rules.{rules}
 use Rattle.held.proofs.receiver.HeldReceiver.start.Goals as goal
 
 pub returns-then-wide : goal.returns-then-wide

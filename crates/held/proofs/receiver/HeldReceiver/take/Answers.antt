@@ -2,7 +2,6 @@
 use mathlib.Core.Path.{sym, ap, ◌∙◌}
 use Rattle.answers.proofs.Tests.{cond_true, cond_false}
 use Rattle.held.specs.Receivers.{narrow_take, broad_take, held_taken, held_taken_out}
-use borrow.Author.Rules.{rules}
 use Rattle.held.proofs.receiver.HeldReceiver.take.Goals as goal
 
 pub returns-then-self : goal.returns-then-self

@@ -1,6 +1,5 @@
 -- `segments::receiver32::Receiver::start`: the fresh receiver, or the one of zeros.
 use mathlib.Core.Path.{sym, ap, ap₂, ◌∙◌}
-use borrow.Author.Rules.{rules}
 use Rattle.norx.specs.Norx.{word32}
 use Rattle.answers.specs.declared.Answer.{Answer}
 use Rattle.answers.proofs.Chain.{tested}

@@ -3,7 +3,6 @@ use mathlib.Core.Path.{ap₂, ◌∙◌}
 use mathlib.Core.List.{List}
 use Prim.Native.Nat.{ℕ}
 use native.Mathlib.Omega.{arith}
-use borrow.Author.Rules.{rules}
 use Rattle.norx.proofs.Slices.{copied}
 use Rattle.cutting.specs.Cutting.{waiting_first}
 use Rattle.segments.specs.Structs.{made64}

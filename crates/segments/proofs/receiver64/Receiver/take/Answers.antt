@@ -1,7 +1,6 @@
 -- `segments::receiver64::Receiver::take`: the segment opened, and what it then waits for.
 use mathlib.Core.Path.{sym, ap, ap₂, ◌∙◌}
 use Prim.Native.Nat.{ℕ}
-use borrow.Author.Rules.{rules}
 use Rattle.norx.specs.Norx.{word64}
 use Rattle.answers.specs.declared.Answer.{Answer}
 use Rattle.answers.specs.Answers.{number_of}

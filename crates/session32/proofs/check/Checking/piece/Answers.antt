@@ -3,7 +3,6 @@ use mathlib.Core.Path.{refl}
 use mathlib.Core.List.{[]}
 use Rattle.session32.specs.Kinds.{checking32}
 use Rattle.session.proofs.Steps.{PieceFound, PieceMade, piece_accepted, piece_taken, piece_kept}
-use borrow.Author.Rules.{rules}
 use Rattle.session32.proofs.check.Checking.piece.Goals as goal
 
 pub taken_at-s-requires : goal.taken_at-s-requires

@@ -1,7 +1,6 @@
 -- `session32::seal::Sealing::close`: the answer, the session and the tag of `closing`, with the runs that are reported with it.
 use mathlib.Core.Path.{ap, ap₂}
 use Prim.Native.Nat.{ℕ}
-use borrow.Author.Rules.{rules}
 use Rattle.answers.specs.declared.Outcome.{Outcome}
 use Rattle.session.proofs.Reports.{close_reports}
 use Rattle.session32.specs.declared.seal.SealingStep.{SealingStep}

@@ -1,7 +1,6 @@
 -- `session32::seal::Sealing::closed`: put together from nothing but zeros.
 use Rattle.session32.specs.Kinds.{sealing32}
 use Rattle.session.proofs.Steps.{closed_made}
-use borrow.Author.Rules.{rules}
 use Rattle.session32.proofs.seal.Sealing.closed.Goals as goal
 
 pub returns : goal.returns

@@ -5,7 +5,6 @@ use native.Mathlib.Omega.{arith}
 use Rattle.norx.specs.Norx.{word32}
 use Rattle.session.proofs.Parts.{copied_over, own_long}
 use Rattle.session.proofs.Steps.{CloseFound, TagMade, close_fits, close_done, close_tag_lem, close_kept, close_left}
-use borrow.Author.Rules.{rules}
 use Rattle.session32.proofs.seal.Sealing.closing.Goals as goal
 
 pub own_tag-own-requires : goal.own_tag-own-requires

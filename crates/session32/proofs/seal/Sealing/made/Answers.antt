@@ -3,7 +3,6 @@ use mathlib.Core.Path.{ap}
 use mathlib.Core.List.{List}
 use Prim.Native.Nat.{ℕ}
 use Rattle.session32.specs.Kinds.{sealing_made}
-use borrow.Author.Rules.{rules}
 use Rattle.session32.proofs.seal.Sealing.made.Goals as goal
 
 pub returns : goal.returns

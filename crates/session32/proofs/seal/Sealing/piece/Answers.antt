@@ -1,7 +1,6 @@
 -- `session32::seal::Sealing::piece`: taken in where the answer is 0, and else nothing changed.
 use Rattle.session32.specs.Kinds.{sealing32}
 use Rattle.session.proofs.Steps.{PieceFound, PieceMade, piece_accepted, piece_taken, piece_wrote, piece_kept, piece_left}
-use borrow.Author.Rules.{rules}
 use Rattle.session32.proofs.seal.Sealing.piece.Goals as goal
 
 pub taken_at-s-requires : goal.taken_at-s-requires

@@ -1,7 +1,6 @@
 -- `session64::check::Checking::closed`: put together from nothing but zeros.
 use Rattle.session64.specs.Kinds.{checking64}
 use Rattle.session.proofs.Steps.{closed_made}
-use borrow.Author.Rules.{rules}
 use Rattle.session64.proofs.check.Checking.closed.Goals as goal
 
 pub returns : goal.returns

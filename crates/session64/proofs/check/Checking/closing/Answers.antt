@@ -5,7 +5,6 @@ use mathlib.Core.Bool.{Bool}
 use Rattle.answers.specs.declared.Answer.TheVariants.{Done, TagDiffers}
 use Rattle.answers.specs.Answers.{need_of}
 use Rattle.session.proofs.Steps.{CloseFound, TagMade, close_fits, close_done, close_kept}
-use borrow.Author.Rules.{rules}
 use Rattle.session64.proofs.check.Checking.closing.Goals as goal
 
 pub own_tag-own-requires : goal.own_tag-own-requires

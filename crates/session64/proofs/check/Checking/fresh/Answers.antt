@@ -3,7 +3,6 @@ use Rattle.session64.specs.Kinds.{checking64}
 use Rattle.norx.specs.Norx.{word64}
 use Rattle.session.proofs.Parts.{row_of_lem}
 use Rattle.session.proofs.Steps.{fresh_made}
-use borrow.Author.Rules.{rules}
 use Rattle.session64.proofs.check.Checking.fresh.Goals as goal
 
 pub returns : goal.returns

@@ -3,7 +3,6 @@ use mathlib.Core.Path.{refl}
 use mathlib.Core.List.{[]}
 use Rattle.session64.specs.Kinds.{checking64}
 use Rattle.session.proofs.Steps.{PieceFound, PieceMade, piece_accepted, piece_taken, piece_kept}
-use borrow.Author.Rules.{rules}
 use Rattle.session64.proofs.check.Checking.piece.Goals as goal
 
 pub taken_at-s-requires : goal.taken_at-s-requires

@@ -1,7 +1,6 @@
 -- `session64::check::Checking::start`: the fresh session, or the closed one.
 use Rattle.session64.specs.Kinds.{checking64}
 use Rattle.session.proofs.Steps.{start_fits, start_done, start_not}
-use borrow.Author.Rules.{rules}
 use Rattle.session64.proofs.check.Checking.start.Goals as goal
 
 pub fresh-fresh-requires : goal.fresh-fresh-requires

@@ -1,7 +1,6 @@
 -- `session64::seal::Sealing::closed`: put together from nothing but zeros.
 use Rattle.session64.specs.Kinds.{sealing64}
 use Rattle.session.proofs.Steps.{closed_made}
-use borrow.Author.Rules.{rules}
 use Rattle.session64.proofs.seal.Sealing.closed.Goals as goal
 
 pub returns : goal.returns

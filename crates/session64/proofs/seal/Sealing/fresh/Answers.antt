@@ -3,7 +3,6 @@ use Rattle.session64.specs.Kinds.{sealing64}
 use Rattle.norx.specs.Norx.{word64}
 use Rattle.session.proofs.Parts.{row_of_lem}
 use Rattle.session.proofs.Steps.{fresh_made}
-use borrow.Author.Rules.{rules}
 use Rattle.session64.proofs.seal.Sealing.fresh.Goals as goal
 
 pub returns : goal.returns

@@ -1,7 +1,6 @@
 -- `session64::seal::Sealing::start`: the fresh session, or the closed one.
 use Rattle.session64.specs.Kinds.{sealing64}
 use Rattle.session.proofs.Steps.{start_fits, start_done, start_not}
-use borrow.Author.Rules.{rules}
 use Rattle.session64.proofs.seal.Sealing.start.Goals as goal
 
 pub fresh-fresh-requires : goal.fresh-fresh-requires
