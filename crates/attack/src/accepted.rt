@@ -4,7 +4,7 @@ use places::Part;
 use texts::same;
 
 // The bytes of each part, and whether they and the nonce are the honest job's so far.
-#[derive(Drop)]
+#[derive(Clone, Copy)]
 pub(crate) struct Accepted {
     pub note: usize,
     pub body: usize,

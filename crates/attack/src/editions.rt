@@ -2,7 +2,7 @@
 use places::terms::Edition;
 
 // The edition that a session is for, and the other one.
-#[derive(Drop)]
+#[derive(Clone, Copy)]
 pub(crate) struct Editions {
     pub own: Edition,
     pub other: Edition,

@@ -5,13 +5,14 @@ use crate::job::{LINE, NONCE, OTHER_LINE, OTHER_NONCE, part};
 use crate::served::{Served, offered, started, verdict};
 use crate::tally::Tally;
 use places::terms::{Edition, Terms};
+use std::io;
 use texts::same;
 
 // Offers every job at a width, prints how they went, and gives them all together.
-pub(crate) fn attack(width: u32, e: Editions, name: &[u8]) -> Tally {
+pub(crate) fn attack(rt: &impl Print, width: u32, e: Editions, name: &str) -> io::Result<Tally> {
     let t = either_nonce(width, 4, e).plus(either_nonce(width, 6, e));
-    t.print(name);
-    t
+    t.print(rt, name)?;
+    Ok(t)
 }
 
 // The two editions with a nonce for each, and with one for both.
@@ -56,10 +57,8 @@ fn under(given: &[u8], width: u32, rounds: u32, e: Editions, own: &[u8], other: 
 // Every two of the eight offers, one after the other. A receiver is a value: from what it is after the first offer, it goes on with each second one.
 fn jobs(s: Served, width: u32, own: &[u8], other: &[u8]) -> Tally {
     let mut t = Tally::none();
-    let mut k: u8 = 0;
-    while k < 8 {
+    for k in 0..8 {
         t = t.plus(goes_on(offer(s, k, width, own, other), width, own, other));
-        k += 1;
     }
     t
 }
@@ -67,10 +66,8 @@ fn jobs(s: Served, width: u32, own: &[u8], other: &[u8]) -> Tally {
 // Each second offer: as a job by itself, and with the own last segment behind it.
 fn goes_on(s: Served, width: u32, own: &[u8], other: &[u8]) -> Tally {
     let mut t = Tally::none();
-    let mut k: u8 = 0;
-    while k < 8 {
+    for k in 0..8 {
         t = t.plus(twice_judged(offer(s, k, width, own, other), width, own));
-        k += 1;
     }
     t
 }

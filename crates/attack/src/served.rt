@@ -11,7 +11,7 @@ use rules::SEGMENT;
 use texts::same;
 
 // How many segments were accepted, and whether their messages and the nonce are the honest job's.
-#[derive(Drop)]
+#[derive(Clone, Copy)]
 pub(crate) struct Served {
     pub receiver: HeldReceiver,
     pub segments: u8,

@@ -14,23 +14,29 @@ use held::Held;
 use places::Part;
 use places::terms::Edition;
 use rules::w64::ROW;
+use std::io;
 use texts::same;
 
 // A session, and what it accepted.
-#[derive(Drop)]
+#[derive(Clone, Copy)]
 struct Run {
     session: Held,
     accepted: Accepted,
 }
 
 // Offers the jobs of every way, prints how each way went, and gives them all together.
-pub(crate) fn attack(editions: Editions, nonce: &[u8], other_nonce: &[u8]) -> Tally {
+pub(crate) fn attack(
+    rt: &impl Print,
+    editions: Editions,
+    nonce: &[u8],
+    other_nonce: &[u8],
+) -> io::Result<Tally> {
     let mut own = [0u8; MESSAGE];
     let mut other = [0u8; MESSAGE];
     let n = message_length(nonce);
     seal(editions.own, nonce, &LINE, &mut own);
     seal(editions.other, other_nonce, &OTHER_LINE, &mut other);
-    every_way(editions, part(&own, 0, n), part(&other, 0, n))
+    every_way(rt, editions, part(&own, 0, n), part(&other, 0, n))
 }
 
 // Seals an edition into a message, by a sealing session.
@@ -71,56 +77,61 @@ fn seal_part(s: Held, edition: Edition, part: Part, bytes: &[u8], out: &mut [u8]
     step.session
 }
 
-fn every_way(e: Editions, own: &[u8], other: &[u8]) -> Tally {
+fn every_way(rt: &impl Print, e: Editions, own: &[u8], other: &[u8]) -> io::Result<Tally> {
     let t = counted(
-        b"first bytes of one, rest of the other",
+        rt,
+        "first bytes of one, rest of the other",
         Way::Cut,
         e,
         own,
         other,
-    );
-    let t = t.plus(counted(b"two pieces swapped", Way::Swapped, e, own, other));
-    let t = t.plus(counted(b"a piece repeated", Way::Repeated, e, own, other));
-    let t = t.plus(counted(b"a piece dropped", Way::Dropped, e, own, other));
-    let t = t.plus(counted(b"pieces changed at random", Way::Random, e, own, other));
-    t.plus(counted(
-        b"honest pieces, refused retries",
+    )?;
+    let t = t.plus(counted(rt, "two pieces swapped", Way::Swapped, e, own, other)?);
+    let t = t.plus(counted(rt, "a piece repeated", Way::Repeated, e, own, other)?);
+    let t = t.plus(counted(rt, "a piece dropped", Way::Dropped, e, own, other)?);
+    let t = t.plus(counted(rt, "pieces changed at random", Way::Random, e, own, other)?);
+    Ok(t.plus(counted(
+        rt,
+        "honest pieces, refused retries",
         Way::Honest,
         e,
         own,
         other,
-    ))
+    )?))
 }
 
 // Offers every job of a way, in turn to a session for the one edition and to one for the other.
-fn counted(name: &[u8], way: Way, e: Editions, own: &[u8], other: &[u8]) -> Tally {
+fn counted(
+    rt: &impl Print,
+    name: &str,
+    way: Way,
+    e: Editions,
+    own: &[u8],
+    other: &[u8],
+) -> io::Result<Tally> {
     let mut t = Tally::none();
     let mut x = SEED;
     let count = jobs(way);
-    let mut n: u32 = 0;
-    while n < count {
+    for n in 0..count {
         if n % 2 == 0 {
             t = t.plus(play(way, n / 2, x, e, own, other));
         } else {
             t = t.plus(play(way, n / 2, x, e.turned(), other, own));
         }
         x = next_job(x);
-        n += 1;
     }
-    t.print(name);
-    t
+    t.print(rt, name)?;
+    Ok(t)
 }
 
 // Offers the m'th job of a way to a session for its own edition; own is that edition's message.
 fn play(way: Way, m: u32, seed: u64, e: Editions, own: &[u8], other: &[u8]) -> Tally {
     let mut run = begun(way, m, e.own, own, other);
     let mut x = seed;
-    let mut p: u8 = 0;
-    while p < 16 {
+    for p in 0..16 {
         let next = step(run, way, m, p, x, e, own, other);
         run = next;
         x = next_piece(x);
-        p += 1;
     }
     close(run, ending(way, m, x), e, own, other)
 }

@@ -1,7 +1,7 @@
 // How many jobs were offered, and how many passed.
-use libc::STDOUT_FILENO;
+use std::io;
 
-#[derive(Drop)]
+#[derive(Clone, Copy)]
 pub(crate) struct Tally {
     pub mixed: u64,
     pub mixed_passed: u64,
@@ -37,43 +37,49 @@ impl Tally {
         }
     }
 
-    pub(crate) fn print(self, way: &[u8]) {
-        say(b"  ");
-        say(way);
-        say(b": ");
-        say_number(self.mixed);
-        say(b" mixed, ");
-        say_number(self.mixed_passed);
-        say(b" passed; ");
-        say_number(self.unmixed);
-        say(b" unmixed, ");
-        say_number(self.unmixed_passed);
-        say(b" passed\n");
+    pub(crate) fn print(self, rt: &impl Print, way: &str) -> io::Result<()> {
+        say(rt, "  ")?;
+        say(rt, way)?;
+        say(rt, ": ")?;
+        say_number(rt, self.mixed)?;
+        say(rt, " mixed, ")?;
+        say_number(rt, self.mixed_passed)?;
+        say(rt, " passed; ")?;
+        say_number(rt, self.unmixed)?;
+        say(rt, " unmixed, ")?;
+        say_number(rt, self.unmixed_passed)?;
+        say(rt, " passed\n")
     }
 
-    pub(crate) fn print_all(self) {
-        say(b"Of ");
-        say_number(self.mixed);
-        say(b" mixed jobs ");
-        say_number(self.mixed_passed);
-        say(b" passed.\nOf ");
-        say_number(self.unmixed);
-        say(b" unmixed jobs (whole, in every cut into two, in small pieces, with refused\n");
-        say(b"retries between) ");
-        say_number(self.unmixed_passed);
-        say(b" passed.\n");
+    pub(crate) fn print_all(self, rt: &impl Print) -> io::Result<()> {
+        say(rt, "Of ")?;
+        say_number(rt, self.mixed)?;
+        say(rt, " mixed jobs ")?;
+        say_number(rt, self.mixed_passed)?;
+        say(rt, " passed.\nOf ")?;
+        say_number(rt, self.unmixed)?;
+        say(
+            rt,
+            " unmixed jobs (whole, in every cut into two, in small pieces, with refused\n",
+        )?;
+        say(rt, "retries between) ")?;
+        say_number(rt, self.unmixed_passed)?;
+        say(rt, " passed.\n")
     }
 
-    pub(crate) fn print_segments(self) {
-        say(b"Of ");
-        say_number(self.mixed);
-        say(b" mixed jobs in segments ");
-        say_number(self.mixed_passed);
-        say(b" passed.\nOf ");
-        say_number(self.unmixed);
-        say(b" unmixed jobs in segments (with a refused one between) ");
-        say_number(self.unmixed_passed);
-        say(b" passed.\n");
+    pub(crate) fn print_segments(self, rt: &impl Print) -> io::Result<()> {
+        say(rt, "Of ")?;
+        say_number(rt, self.mixed)?;
+        say(rt, " mixed jobs in segments ")?;
+        say_number(rt, self.mixed_passed)?;
+        say(rt, " passed.\nOf ")?;
+        say_number(rt, self.unmixed)?;
+        say(
+            rt,
+            " unmixed jobs in segments (with a refused one between) ",
+        )?;
+        say_number(rt, self.unmixed_passed)?;
+        say(rt, " passed.\n")
     }
 }
 
@@ -87,10 +93,10 @@ fn sum(a: u64, b: u64) -> u64 {
     if b <= room { a + b } else { 0xffffffffffffffff }
 }
 
-pub(crate) fn say(text: &[u8]) {
-    io::write_all(STDOUT_FILENO, text);
+pub(crate) fn say(rt: &impl Print, text: &str) -> io::Result<()> {
+    rt.print(text)
 }
 
-fn say_number(n: u64) {
-    io::print_decimal(STDOUT_FILENO, n);
+fn say_number(rt: &impl Print, n: u64) -> io::Result<()> {
+    rt.print(n)
 }

@@ -1,6 +1,6 @@
 // The ways in which jobs are offered.
 
-#[derive(Drop)]
+#[derive(Clone, Copy)]
 pub(crate) enum Way {
     // The first bytes of one edition and the rest of the other, in both orders, with either tag and under either nonce.
     Cut,
@@ -41,7 +41,7 @@ pub(crate) fn foreign_nonce(way: Way, m: u32) -> bool {
 }
 
 // How a job ends: with the tag of the other edition, or a close under it.
-#[derive(Drop)]
+#[derive(Clone, Copy)]
 pub(crate) struct End {
     pub foreign_tag: bool,
     pub foreign_close: bool,

@@ -1,11 +1,12 @@
 // Seals a job of two lines for revision 12 of job 7, a piece for each line, and checks it in pieces that are cut elsewhere.
 #![tactic(auto)]
+
 use answers::{Answer, number};
-use libc::STDOUT_FILENO;
 use places::terms::{Edition, Terms};
 use places::{Label, Part};
 use session64::check::{Checking, CheckingStep};
 use session64::seal::{Sealing, SealingStep};
+use std::io;
 
 // The key that both sides have.
 const KEY: [u8; 32] = *b"the key of tool 4 and the office";
@@ -50,35 +51,44 @@ fn close(session: Sealing, tag: &mut [u8; 32]) -> Answer {
 }
 
 // Checks the text in other pieces; gives Done only where it has this tag.
-fn check(text: &[u8], tag: &[u8; 32]) -> Answer {
+fn check(rt: &impl Print, text: &[u8], tag: &[u8; 32]) -> io::Result<Answer> {
     let third = text.len() / 3;
     let CheckingStep { answer, session } = Checking::start(&KEY, &NONCE, TERMS);
-    let Answer::Done = answer else { return answer };
+    let Answer::Done = answer else {
+        return Ok(answer)
+    };
     let CheckingStep { answer, session } = session.piece(body(0), &text[0..third]);
-    let Answer::Done = answer else { return answer };
+    let Answer::Done = answer else {
+        return Ok(answer)
+    };
     // A piece that comes twice is refused, and the session is given back as it was.
     let CheckingStep { answer, session } = session.piece(body(0), &text[0..third]);
-    tell(b"the first piece once more, from an old offset: ", answer);
+    tell(
+        rt,
+        "the first piece once more, from an old offset: ",
+        answer,
+    )?;
     let CheckingStep { answer, session } = session.piece(body(third), &text[third..]);
-    let Answer::Done = answer else { return answer };
-    session.close(EDITION, tag).answer
+    let Answer::Done = answer else {
+        return Ok(answer)
+    };
+    Ok(session.close(EDITION, tag).answer)
 }
 
 // Prints what was called, and the number of its answer.
-fn tell(call: &[u8], answer: Answer) {
-    io::write_all(STDOUT_FILENO, call);
-    io::print_decimal(STDOUT_FILENO, number(answer) as u64);
-    io::write_all(STDOUT_FILENO, b"\n");
+fn tell(rt: &impl Print, call: &str, answer: Answer) -> io::Result<()> {
+    rt.print(call)?;
+    rt.println(number(answer))
 }
 
-fn main() {
+fn main(rt: HostRuntime) -> io::Result<()> {
     let mut text = [0u8; 14];
     let mut tag = [0u8; 32];
     let sealed = seal(&mut text, &mut tag);
-    tell(b"sealing: ", sealed);
-    let Answer::Done = sealed else { return };
-    let checked = check(&text, &tag);
-    tell(b"checking: ", checked);
-    let Answer::Done = checked else { return };
-    io::write_all(STDOUT_FILENO, b"the job is good\n");
+    tell(&rt, "sealing: ", sealed)?;
+    let Answer::Done = sealed else { return Ok(()) };
+    let checked = check(&rt, &text, &tag)?;
+    tell(&rt, "checking: ", checked)?;
+    let Answer::Done = checked else { return Ok(()) };
+    rt.println("the job is good")
 }

@@ -19,20 +19,20 @@ pub(crate) const EDITION: Edition = Edition {
     revision: 11,
 };
 
-#[derive(Drop)]
+#[derive(Clone, Copy)]
 pub(crate) enum Work {
     Seal,
     Check,
 }
 
-#[derive(Drop)]
+#[derive(Clone, Copy)]
 pub(crate) enum Way {
     OneCall,
     Pieces,
 }
 
 // A line of what is printed: a work that is done in both ways.
-#[derive(Drop)]
+#[derive(Clone, Copy)]
 pub(crate) struct Line {
     pub width: u32,
     pub rounds: u32,

@@ -2,6 +2,8 @@
 use crate::job::{Line, Way, run};
 use crate::say::{say, say_line, say_number};
 use answers::done;
+use std::io;
+use std::time::{CpuClock, Duration};
 
 const TURNS: u32 = 200;
 
@@ -16,31 +18,36 @@ struct Best {
 }
 
 // Prints the times of both ways.
-pub(crate) fn measure(line: Line, body: &[u8], sealed: &mut [u8], out: &mut [u8]) {
-    let best = turns(line, body, sealed, out);
-    say_line(line);
-    say_number(best.one_call);
-    say(b" ");
-    say_number(best.pieces);
-    say(b"\n");
+pub(crate) fn measure(
+    rt: &(impl Print + CpuClock),
+    line: Line,
+    body: &[u8],
+    sealed: &mut [u8],
+    out: &mut [u8],
+) -> io::Result<()> {
+    let best = turns(rt, line, body, sealed, out);
+    say_line(rt, line)?;
+    say_number(rt, best.one_call)?;
+    say(rt, " ")?;
+    say_number(rt, best.pieces)?;
+    say(rt, "\n")
 }
 
-fn turns(line: Line, body: &[u8], sealed: &mut [u8], out: &mut [u8]) -> Best {
+fn turns(rt: &impl CpuClock, line: Line, body: &[u8], sealed: &mut [u8], out: &mut [u8]) -> Best {
     let mut best = Best {
         one_call: LONGEST,
         pieces: LONGEST,
     };
-    let mut i: u32 = 0;
-    while i < TURNS {
-        let next = turn(best, i % 2 == 0, line, body, sealed, out);
+    for i in 0..TURNS {
+        let next = turn(rt, best, i % 2 == 0, line, body, sealed, out);
         best = next;
-        i += 1;
     }
     best
 }
 
 // Both ways once; they take turns at being first.
 fn turn(
+    rt: &impl CpuClock,
     best: Best,
     one_call_first: bool,
     line: Line,
@@ -49,12 +56,12 @@ fn turn(
     out: &mut [u8],
 ) -> Best {
     if one_call_first {
-        let one_call = timed(line, Way::OneCall, body, sealed, out);
-        let pieces = timed(line, Way::Pieces, body, sealed, out);
+        let one_call = timed(rt, line, Way::OneCall, body, sealed, out);
+        let pieces = timed(rt, line, Way::Pieces, body, sealed, out);
         better(best, one_call, pieces)
     } else {
-        let pieces = timed(line, Way::Pieces, body, sealed, out);
-        let one_call = timed(line, Way::OneCall, body, sealed, out);
+        let pieces = timed(rt, line, Way::Pieces, body, sealed, out);
+        let one_call = timed(rt, line, Way::OneCall, body, sealed, out);
         better(best, one_call, pieces)
     }
 }
@@ -70,10 +77,17 @@ fn least(a: u64, b: u64) -> u64 {
     if a < b { a } else { b }
 }
 
-fn timed(line: Line, way: Way, body: &[u8], sealed: &mut [u8], out: &mut [u8]) -> u64 {
-    let begin = now();
+fn timed(
+    rt: &impl CpuClock,
+    line: Line,
+    way: Way,
+    body: &[u8],
+    sealed: &mut [u8],
+    out: &mut [u8],
+) -> u64 {
+    let begin = now(rt);
     let answer = run(line, way, body, sealed, out);
-    let end = now();
+    let end = now(rt);
     if done(answer) {
         passed(begin, end)
     } else {
@@ -86,11 +100,14 @@ fn passed(begin: u64, end: u64) -> u64 {
 }
 
 // The processor time so far, in microseconds.
-fn now() -> u64 {
-    unsigned(libc::clock())
+fn now(rt: &impl CpuClock) -> u64 {
+    unsigned(rt.process_cpu_time())
 }
 
-// The number, or 0 where it is below that, as where the system does not tell the time.
-fn unsigned(t: i64) -> u64 {
-    if t > 0 { t as u64 } else { 0 }
+// A time's microseconds, or 0 where the system does not tell the time.
+fn unsigned(t: io::Result<Duration>) -> u64 {
+    match t {
+        Ok(d) => u64::try_from(d.as_micros()).unwrap_or(0),
+        Err(_) => 0,
+    }
 }

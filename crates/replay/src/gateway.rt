@@ -4,56 +4,64 @@ use crate::told::{say, say_answer, say_edition, say_number, say_part};
 use places::Part;
 use places::terms::Edition;
 use session64::check::{Checking, CheckingClose};
+use std::io;
 
-pub(crate) fn start(nonce: &[u8], edition: Edition) -> Checking {
+pub(crate) fn start(rt: &impl Print, nonce: &[u8], edition: Edition) -> io::Result<Checking> {
     let step = Checking::start(&KEY, nonce, terms(edition));
-    say(b"  start a session for ");
-    say_edition(edition);
+    say(rt, "  start a session for ")?;
+    say_edition(rt, edition)?;
     let answer = step.answer;
-    say_answer(answer);
-    step.session
+    say_answer(rt, answer)?;
+    Ok(step.session)
 }
 
 pub(crate) fn piece(
+    rt: &impl Print,
     s: Checking,
     edition: Edition,
     part: Part,
     offset: usize,
     bytes: &[u8],
-    name: &[u8],
-) -> Checking {
+    name: &str,
+) -> io::Result<Checking> {
     let step = s.piece(label(edition, part, offset), bytes);
-    say(b"  ");
-    say_edition(edition);
-    say(b", ");
-    say_part(part);
-    say(b" from ");
-    say_number(offset as u64);
-    say(b", ");
-    say(name);
+    say(rt, "  ")?;
+    say_edition(rt, edition)?;
+    say(rt, ", ")?;
+    say_part(rt, part)?;
+    say(rt, " from ")?;
+    say_number(rt, offset as u64)?;
+    say(rt, ", ")?;
+    say(rt, name)?;
     let answer = step.answer;
-    say_answer(answer);
-    step.session
+    say_answer(rt, answer)?;
+    Ok(step.session)
 }
 
-pub(crate) fn close(s: Checking, edition: Edition, tag: &[u8], name: &[u8]) -> CheckingClose {
+pub(crate) fn close(
+    rt: &impl Print,
+    s: Checking,
+    edition: Edition,
+    tag: &[u8],
+    name: &str,
+) -> io::Result<CheckingClose> {
     let step = s.close(edition, tag);
-    say(b"  close under ");
-    say_edition(edition);
-    say(b", ");
-    say(name);
+    say(rt, "  close under ")?;
+    say_edition(rt, edition)?;
+    say(rt, ", ")?;
+    say(rt, name)?;
     let answer = step.answer;
-    say_answer(answer);
-    step
+    say_answer(rt, answer)?;
+    Ok(step)
 }
 
 // The bytes of each part that a session has accepted.
-pub(crate) fn say_accepted(s: Checking) {
-    say(b"note ");
-    say_number(s.note as u64);
-    say(b", body ");
-    say_number(s.body as u64);
-    say(b", trailer ");
-    say_number(s.trailer as u64);
-    say(b"\n");
+pub(crate) fn say_accepted(rt: &impl Print, s: Checking) -> io::Result<()> {
+    say(rt, "note ")?;
+    say_number(rt, s.note as u64)?;
+    say(rt, ", body ")?;
+    say_number(rt, s.body as u64)?;
+    say(rt, ", trailer ")?;
+    say_number(rt, s.trailer as u64)?;
+    say(rt, "\n")
 }

@@ -1,5 +1,6 @@
 // A toy of the home-made seal: a checksum of each piece, by itself.
 use crate::told::{say, say_number};
+use std::io;
 
 // The sum of the bytes, modulo 65536.
 pub(crate) fn checksum(piece: &[u8]) -> u32 {
@@ -17,17 +18,17 @@ fn added(sum: u32, b: u8) -> u32 {
 }
 
 // Prints whether a piece has the checksum that it was sent with.
-pub(crate) fn look(name: &[u8], piece: &[u8], sent: u32) {
+pub(crate) fn look(rt: &impl Print, name: &str, piece: &[u8], sent: u32) -> io::Result<()> {
     let sum = checksum(piece);
-    say(b"  ");
-    say(name);
-    say(b", sent with ");
-    say_number(sent as u64);
-    say(b", has ");
-    say_number(sum as u64);
+    say(rt, "  ")?;
+    say(rt, name)?;
+    say(rt, ", sent with ")?;
+    say_number(rt, sent as u64)?;
+    say(rt, ", has ")?;
+    say_number(rt, sum as u64)?;
     if sum == sent {
-        say(b" -> good\n");
+        say(rt, " -> good\n")
     } else {
-        say(b" -> bad\n");
+        say(rt, " -> bad\n")
     }
 }

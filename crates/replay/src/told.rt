@@ -1,80 +1,79 @@
 // What is printed: texts, numbers, editions, parts, and the words of an answer.
 use answers::{Answer, number};
-use libc::STDOUT_FILENO;
 use places::Part;
 use places::terms::Edition;
+use std::io;
 
-pub(crate) fn say(text: &[u8]) {
-    io::write_all(STDOUT_FILENO, text);
+pub(crate) fn say(rt: &impl Print, text: &str) -> io::Result<()> {
+    rt.print(text)
 }
 
-pub(crate) fn say_number(n: u64) {
-    io::print_decimal(STDOUT_FILENO, n);
+pub(crate) fn say_number(rt: &impl Print, n: u64) -> io::Result<()> {
+    rt.print(n)
 }
 
 // 7/12 is revision 12 of job 7.
-pub(crate) fn say_edition(edition: Edition) {
-    say_number(edition.job);
-    say(b"/");
-    say_number(edition.revision);
+pub(crate) fn say_edition(rt: &impl Print, edition: Edition) -> io::Result<()> {
+    say_number(rt, edition.job)?;
+    say(rt, "/")?;
+    say_number(rt, edition.revision)
 }
 
 // A text on one line: "/" stands for the end of each of its lines.
-pub(crate) fn say_lines(text: &[u8]) {
-    let mut i = 0;
-    while i < text.len() {
-        say_byte(text[i]);
-        i += 1;
+pub(crate) fn say_lines(rt: &impl Print, text: &[u8]) -> io::Result<()> {
+    for b in text {
+        say_byte(rt, *b)?;
     }
+    Ok(())
 }
 
-fn say_byte(b: u8) {
+fn say_byte(rt: &impl Print, b: u8) -> io::Result<()> {
     if b == b'\n' {
-        say(b"/");
+        say(rt, "/")
     } else {
         let one = [b];
-        say(&one);
+        rt.write_all(&one)
     }
 }
 
-pub(crate) fn say_part(part: Part) {
+pub(crate) fn say_part(rt: &impl Print, part: Part) -> io::Result<()> {
     match part {
-        Part::Note => say(b"note"),
-        Part::Body => say(b"body"),
-        Part::Trailer => say(b"trailer"),
+        Part::Note => say(rt, "note"),
+        Part::Body => say(rt, "body"),
+        Part::Trailer => say(rt, "trailer"),
     }
 }
 
 // The number of an answer and what it means, at the end of a line.
-pub(crate) fn say_answer(answer: Answer) {
-    say_result(answer);
-    say(b"\n");
+pub(crate) fn say_answer(rt: &impl Print, answer: Answer) -> io::Result<()> {
+    say_result(rt, answer)?;
+    say(rt, "\n")
 }
 
 // The same where the line goes on.
-pub(crate) fn say_result(answer: Answer) {
-    say(b" -> ");
-    say_number(number(answer) as u64);
-    say(b", ");
-    say_meaning(answer);
+pub(crate) fn say_result(rt: &impl Print, answer: Answer) -> io::Result<()> {
+    say(rt, " -> ")?;
+    say_number(rt, number(answer) as u64)?;
+    say(rt, ", ")?;
+    say_meaning(rt, answer)
 }
 
-fn say_meaning(answer: Answer) {
+fn say_meaning(rt: &impl Print, answer: Answer) -> io::Result<()> {
     match answer {
-        Answer::Done => say(b"done"),
-        Answer::KeyLength => say(b"refused: the key or the nonce has another length"),
-        Answer::RoundsNumber => say(b"refused: the rounds are not 4 or 6"),
-        Answer::TagLength => say(b"refused: the tag has another length"),
-        Answer::OverLimit => say(b"refused: the part would be too long"),
-        Answer::OutputLength => say(b"refused: the output has another length"),
-        Answer::OtherRevision => say(b"refused: not the session's revision"),
-        Answer::EarlierPart => say(b"refused: that part has ended"),
-        Answer::OtherOffset => say(b"refused: not the next offset"),
-        Answer::NotSound => say(b"refused: session closed or not sound"),
-        Answer::TagDiffers => say(b"refused: the tag differs"),
-        Answer::WidthNumber => say(b"refused: the width is not 32 or 64"),
-        Answer::OtherJob => say(b"refused: not the session's job"),
-        Answer::SegmentLength => say(b"refused: not the length of that segment"),
-        Answer::AfterLast => say(b"refused: a segment after the last"),
+        Answer::Done => say(rt, "done"),
+        Answer::KeyLength => say(rt, "refused: the key or the nonce has another length"),
+        Answer::RoundsNumber => say(rt, "refused: the rounds are not 4 or 6"),
+        Answer::TagLength => say(rt, "refused: the tag has another length"),
+        Answer::OverLimit => say(rt, "refused: the part would be too long"),
+        Answer::OutputLength => say(rt, "refused: the output has another length"),
+        Answer::OtherRevision => say(rt, "refused: not the session's revision"),
+        Answer::EarlierPart => say(rt, "refused: that part has ended"),
+        Answer::OtherOffset => say(rt, "refused: not the next offset"),
+        Answer::NotSound => say(rt, "refused: session closed or not sound"),
+        Answer::TagDiffers => say(rt, "refused: the tag differs"),
+        Answer::WidthNumber => say(rt, "refused: the width is not 32 or 64"),
+        Answer::OtherJob => say(rt, "refused: not the session's job"),
+        Answer::SegmentLength => say(rt, "refused: not the length of that segment"),
+        Answer::AfterLast => say(rt, "refused: a segment after the last"),
     }
 }

@@ -1,7 +1,7 @@
 // The words of a call, read by their kinds.
 use crate::decode::{lay, number};
 use crate::names::{END, PARTS, Row, STANDINGS, WORDS, find};
-use crate::parts::part;
+use crate::parts::{part, place_of};
 use crate::room::BYTES_MOST;
 use dispatch::Words;
 
@@ -23,7 +23,7 @@ const NONE: Words = Words {
 };
 
 // What the words behind a call's name say, and of the length of an output besides whether one is lent; where in the line the next word begins, how far the memory is used, and whether all of it was right.
-#[derive(Drop)]
+#[derive(Clone, Copy)]
 pub(crate) struct Arguments {
     pub words: Words,
     pub lends: bool,
@@ -66,11 +66,9 @@ pub(crate) fn read(line: &[u8], at: usize, row: Row, memory: &mut [u8]) -> Argum
         used: 0,
         right: true,
     };
-    let mut k = 0;
-    while k < MOST {
+    for k in 0..MOST {
         let next = with_word(a, row[WORDS + k], line, memory);
         a = next;
-        k += 1;
     }
     a.right = a.right & (line.len() < a.at);
     a
@@ -85,7 +83,7 @@ fn with_word(mut a: Arguments, kind: u8, line: &[u8], memory: &mut [u8]) -> Argu
     if line.len() < from {
         return a.then(false, 0);
     }
-    let end = bytes::scan::find(line, from, line.len(), b' ');
+    let end = place_of(b' ', line, from, line.len());
     a.at = end + 1;
     with(a, kind, part(line, from, end), memory)
 }

@@ -4,7 +4,7 @@ use decimal::{Number, read_number};
 use spelled::{Spelled, read_bytes};
 
 // What a word says, and whether it was right.
-#[derive(Drop)]
+#[derive(Clone, Copy)]
 pub(crate) struct Value {
     pub right: bool,
     pub value: usize,

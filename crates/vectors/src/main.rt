@@ -1,5 +1,6 @@
 // Reads calls from standard input, one a line, and writes a line for each: what the library answered and what it left behind. docs/VECTORS.md has the language.
 #![tactic(auto)]
+
 mod arguments;
 mod call;
 mod decode;
@@ -19,9 +20,10 @@ use held::Held;
 use held::receiver::HeldReceiver;
 use run::Run;
 
-// Answers every line, until the input ends, and with it a last line that has no newline, or a write fails. A proved loop has to end, so it counts its turns down from a number that no run uses up.
-fn main() {
-    let mut chunk = io::large_buffer();
+// Answers every line, until the input ends, and with it a last line that has no newline, or a write fails. A proved loop has to end, so it has a number of turns that no run uses up.
+fn main(rt: HostRuntime) {
+    let mut stdin = rt.stdin();
+    let mut chunk = [0u8; 65536];
     let mut line = room::bytes();
     let kept = Kept {
         session: Held::closed(false, true),
@@ -33,13 +35,15 @@ fn main() {
         gathered: 0,
         goes_on: true,
     };
-    let mut turns = u64::MAX;
-    while turns > 0 {
-        let next = lines::with_read(run, input::read(&mut chunk), &mut line);
+    for _ in 0..u64::MAX {
+        let bytes = input::read(&rt, &mut stdin, &mut chunk);
+        let next = lines::with_read(&rt, run, bytes, &mut line);
         run = next;
-        turns = if run.goes_on { turns - 1 } else { 0 };
+        if !run.goes_on {
+            break;
+        }
     }
     if 0 < run.gathered {
-        lines::answered(run, &line);
+        lines::answered(&rt, run, &line);
     }
 }

@@ -1,7 +1,7 @@
 // The calls and the standings by their names, and the kinds of words that stand behind a call's name.
 ghost use Rattle.std.specs.Prelude.{◌≤◌};
 
-use crate::parts::part;
+use crate::parts::{part, place_of};
 use places::{Standing, rank};
 use texts::same;
 
@@ -99,7 +99,7 @@ pub(crate) fn row(k: usize) -> Row {
 
 // The name that a row has.
 pub(crate) fn name(row: &Row) -> &[u8] {
-    part(row, 0, bytes::scan::find(row, 0, WORDS, b' '))
+    part(row, 0, place_of(b' ', row, 0, WORDS))
 }
 
 // The first row from one up to another that has a word for its name; the latter where none has.
@@ -107,12 +107,10 @@ pub(crate) fn find(word: &[u8], from: usize, to: usize) -> usize
     requires { from ≤ to }
     ensures { from ≤ result }
 {
-    let mut k = from;
-    while k < to {
+    for k in from..to {
         if is_name(row(k), word) {
             return k;
         }
-        k += 1;
     }
     to
 }
