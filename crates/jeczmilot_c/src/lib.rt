@@ -1,5 +1,6 @@
 // The C library: the symbols that include/jeczmilot.h declares, each of which is the function of jeczmilot with that name, under the same clauses.
 #![tactic(auto)]
+
 ghost use Rattle.std.specs.Prelude.{◌≡◌};
 ghost use Rattle.answers.specs.Answers.{number_of};
 ghost use Rattle.sealing.specs.Widths.{seal_answer_at, seal_runs_at, seal_out_at, open_answer_at, open_runs_at, open_out_at};
@@ -71,17 +72,7 @@ pub extern "C" fn norx_segment_seal(
     ensures output { out.new ≡ segment_out_at width key.now nonce.now (terms_of rounds job revision) note.now index (yes last) body.now out.old }
 {
     jeczmilot::norx_segment_seal(
-        width,
-        rounds,
-        key,
-        nonce,
-        job,
-        revision,
-        note,
-        index,
-        last,
-        body,
-        out,
+        width, rounds, key, nonce, job, revision, note, index, last, body, out,
     )
 }
 
@@ -106,18 +97,7 @@ pub extern "C" fn norx_segment_open(
     ensures output { out.new ≡ take_out_at width key.now nonce.now (terms_of rounds job revision) note.now (waiting_of index complete) (yes last) sealed.now out.old }
 {
     jeczmilot::norx_segment_open(
-        width,
-        rounds,
-        key,
-        nonce,
-        job,
-        revision,
-        note,
-        index,
-        complete,
-        last,
-        sealed,
-        out,
+        width, rounds, key, nonce, job, revision, note, index, complete, last, sealed, out,
     )
 }
 
