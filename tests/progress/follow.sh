@@ -92,7 +92,7 @@ follow_other() {
     "logic=proved "*) pass_over_notes && done_with "$crate" proved && is_told=yes ;;
     "logic=not-proved"*) not_proved "$crate" && is_told=yes ;;
     "rt: the program wrote "*", and ended with status "*) pass_over_notes && done_with "$crate" ran ;;
-    "rt: chose "* | "rt: "*": begins with what a check kept in "* | "only="* | *": ok") ;;
+    "rt: chose "* | "rt: "*": begins with what a check kept in "* | "rt: rt check --fix-imports "* | "only="* | *": ok") ;;
     "rt: "* | *": failed ("*")" | *": not run, since "* | [0-9]*" of "*" crates ok") show_line ;;
     *) printf '%s\n' "$line" >>"$notes" ;;
     esac
