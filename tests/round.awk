@@ -21,6 +21,7 @@ function count_of(pattern, first, last,    place, found) {
     return found
 }
 
+# A rotate can also be compiled as a double shift of a register with itself.
 function described(first, last) {
     return last - first + 1 " instructions, " \
         count_of("^v?ps[lr]l", first, last) " vector shifts, " \
