@@ -38,7 +38,8 @@ many() { # NUMBER NOUN
 case $command in
 all)
     task="Proving $(many $crates crate) and running $(many $runs program)"
-    run() { rt all test; }
+    # A program may take as long as under rt ci.
+    run() { RT_SECONDS=120 rt all test; }
     ;;
 ci)
     task="Proving $(many $crates crate), trying $(many $edits edit) that must be refused, and running $(many $((runs / 2)) program) as two compilers build each"
