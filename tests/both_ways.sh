@@ -8,18 +8,13 @@ set -eu
 . tests/tools.sh
 . tests/proved.sh
 
-if [ ! -x target/bin/vectors ]; then
-    echo "$0: there is no program target/bin/vectors; make builds it" >&2
-    exit 1
-fi
 program=$root/target/tests/both_ways
 mkdir -p target/tests
 awk '/^```c$/ { on = ++blocks == 2; next } /^```$/ { on = 0 } on' README.md >target/tests/session_header.h
 test -s target/tests/session_header.h
-# The flags and the words in front of a program are lists.
+# The flags are lists of words.
 # shellcheck disable=SC2086
 $CC $CFLAGS -Iinclude -Itests/differential -Itarget/tests -o "$program" tests/both_ways.c "$archive" $LDFLAGS
 $RUN "$program" ask >target/tests/both-ways-calls.txt
-# shellcheck disable=SC2086
-$run target/bin/vectors <target/tests/both-ways-calls.txt >target/tests/both-ways-written.txt
+"$vectors" <target/tests/both-ways-calls.txt >target/tests/both-ways-written.txt
 $RUN "$program" judge <target/tests/both-ways-written.txt

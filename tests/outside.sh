@@ -50,7 +50,7 @@ echo "$left tests outside the proof. V=1 shows all that they say; target/log/out
 try "the narrow side from the wide side" twins tests/twins.sh
 try "every crate and edit in the docs" named tests/named.sh
 try "the planning page and its figures" planning tests/planning.sh --check
-try "the C library" library rt staticlib jeczmilot
+try "the C library" library tests/library.sh
 try "what the archive exports" archive tests/archive.sh
 try "the header by itself" header tests/header.sh
 try "the rows on limits" limits tests/limits.sh

@@ -1,11 +1,10 @@
 #!/bin/sh
-# Has the proved program pace measure a session beside one call, and judges each line:
+# Has the program pace, proved and built where it is not yet, measure a session beside one call, and judges each line:
 #   tests/pace.sh
 # Ends with status 1 where a body in pieces costs more than 1.05 times one call.
 
 set -eu
 cd "$(dirname "$0")/.."
-. tests/proved.sh
 
 # Prints width, rounds, work, both times and their ratio; fails where the bound is not kept.
 judge() {
@@ -20,9 +19,8 @@ judge() {
 echo
 echo "1 MiB through a session in pieces of 64 KiB, beside one call: microseconds of processor time, the best of many turns"
 echo "width rounds  work   one call   pieces  ratio  bound"
-# The words in front of the program are a list.
-# shellcheck disable=SC2086
-$run target/bin/pace measure | {
+mkdir -p target/log
+(cd crates/pace && rt run -- measure 2>../../target/log/rt-run.out) | {
     lines=0
     broken=0
     while read -r width rounds work one_call pieces; do
@@ -30,7 +28,7 @@ $run target/bin/pace measure | {
         lines=$((lines + 1))
     done
     if [ "$lines" -ne 8 ]; then
-        echo "$0: the program measured $lines lines of 8" >&2
+        echo "$0: the program measured $lines lines of 8; target/log/rt-run.out has what the checker said" >&2
         exit 1
     fi
     exit "$broken"

@@ -1,9 +1,8 @@
-# Sourced by the scripts that run a proved program: sets run, the words in front of it.
-# A proved program is for x86-64: on another processor it runs as rt runs it, with the kit's emulator, loader and C library.
-# The emulator does `rep stosb` byte by byte, so the C library is told that this processor has no quick one (erms).
+# Sourced by the scripts that run the proved program vectors: sets vectors to where rt leaves it.
 
-run=
-if [ "$(uname -m)" != x86_64 ]; then
-    kit=$(dirname "$(dirname "$(rt doc)")")/on/$(uname -m)/toolchain
-    run="$kit/bin/qemu-x86_64 -cpu max,-erms $kit/lib/ld-linux-x86-64.so.2 --library-path $kit/lib"
+vectors=crates/vectors/out/vectors
+
+if [ ! -x "$vectors" ]; then
+    echo "$0: there is no program $vectors; make builds it" >&2
+    exit 1
 fi

@@ -52,10 +52,10 @@ for story in target/tests/story.*; do
 done
 echo "the README's stories are of what the program replay writes"
 
-awk '/^```rust$/ { on = 1; next } /^```$/ { on = 0 } on' README.md >target/tests/readme.rt
-awk '/^\/\/ The key that both sides have/ { on = 1 } /^\/\/ Prints/ { exit } on' crates/example/src/main.rt | sed '$d' >target/tests/example.rt
-test -s target/tests/example.rt
-diff target/tests/readme.rt target/tests/example.rt
+awk '/^```rust$/ { on = 1; next } /^```$/ { on = 0 } on' README.md >target/tests/readme.code
+awk '/^\/\/ The key that both sides have/ { on = 1 } /^\/\/ Prints/ { exit } on' crates/example/src/main.rt | sed '$d' >target/tests/example.code
+test -s target/tests/example.code
+diff target/tests/readme.code target/tests/example.code
 case $(cat README.md) in
 *"
 $(sed 's/^/    /' crates/example/stdout)

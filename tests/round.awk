@@ -21,11 +21,12 @@ function count_of(pattern, first, last,    place, found) {
     return found
 }
 
+# A rotate can also be compiled as a double shift of a register with itself.
 function described(first, last) {
     return last - first + 1 " instructions, " \
         count_of("^v?ps[lr]l", first, last) " vector shifts, " \
         count_of("^v?(pshuf|shufp|p?unpck|palignr)", first, last) " shuffles, " \
-        count_of("^ro[lr]", first, last) " rotates, " \
+        count_of("^(ro[lr]|sh[lr]d)", first, last) " rotates, " \
         count_of("[(]%r[sb]p", first, last) " stack accesses"
 }
 

@@ -17,9 +17,5 @@ cc $CFLAGS -DCOUNT_RUNS -Itests/reference -Itests/differential -o target/tests/s
 if [ "${1-}" = --say ]; then
     exec target/tests/sessions --say
 fi
-if [ ! -x target/bin/vectors ]; then
-    echo "$0: there is no program target/bin/vectors; make builds it" >&2
-    exit 1
-fi
 . tests/proved.sh
-target/tests/sessions target/bin/vectors --runner "$run" "$@"
+target/tests/sessions "$vectors" "$@"

@@ -3,6 +3,6 @@
 # On a terminal the line first clears what was written below the last one.
 clear=
 
-tell() { # WHAT OUTCOME SECONDS LEFT
-    printf '%s  %-36s %-14s %6s %4d left\n' "$clear" "$1" "$2" "$3" "$4"
+tell() { # WHAT OUTCOME SECONDS [LEFT]
+    printf '%s  %-36s %-14s %6s%s\n' "$clear" "$1" "$2" "$3" "${4:+ $(printf '%4d left' "$4")}"
 }

@@ -13,13 +13,14 @@ by_nature='
 crates/permutation64/src/table.rt
 crates/permutation64/src/row.rt
 crates/permutation64/src/rounds.rt
-crates/permutation64/proofs/row/row_step/Proof.antt
-crates/permutation64/proofs/rounds/permute/Proof.antt
+crates/permutation64/proofs/row/row_step/Answers.antt
+crates/permutation64/proofs/rounds/permute/Answers.antt
+crates/permutation64/proofs/rounds/permute/Invariants.antt
 crates/blocks64/src/word.rt
 crates/blocks64/src/mark.rt
 crates/blocks64/specs/Marks.antt
-crates/blocks64/proofs/word/load/Proof.antt
-crates/blocks64/proofs/mark/marked/Proof.antt
+crates/blocks64/proofs/word/load/Answers.antt
+crates/blocks64/proofs/mark/marked/Answers.antt
 '
 
 # The padded block and its last byte are written as numbers, as the requirements' form says.
@@ -46,9 +47,9 @@ $1
     esac
 }
 
-# The files whose name or folder has the width; an edit that must fail is tried at one width.
+# The files whose name or folder has the width, but for what rt keeps; an edit that must fail is tried at one width.
 sides() {
-    find crates -type f \( -name '*.rt' -o -name '*.antt' \) -path "*$1*" | grep -v -e '^crates/rules/' -e '^crates/words/' | sort
+    find crates -name out -prune -o -type f \( -name '*.rt' -o -name '*.antt' \) -path "*$1*" -print | grep -v -e '^crates/rules/' -e '^crates/words/' | sort
 }
 
 wide=$(sides 64)
@@ -65,7 +66,7 @@ if [ "${1-}" = --write ]; then
     done
     # What stands at the narrow side alone has lost its twin, and is taken away.
     printf '%s\n' "$narrow" "$expected" "$expected" | sort | uniq -u | xargs -r rm -v
-    find crates -type d -empty -delete
+    find crates -type d -empty -not -path '*/out/*' -delete
     exit
 fi
 

@@ -1,4 +1,4 @@
-// The C host's library: sealing and opening in one call, and segment by segment, and lists of segments as text, on numbers and byte slices.
+// What a C host calls, through the crate jeczmilot_c: sealing and opening in one call, and segment by segment, and lists of segments as text, on numbers and byte slices.
 #![tactic(auto)]
 
 ghost use Rattle.std.specs.Prelude.{◌≡◌};
@@ -35,8 +35,7 @@ fn numbers(outcome: Outcome) -> OutcomeNumbers
 }
 
 // Seals a body at the width given as a number.
-#[unsafe(no_mangle)]
-pub extern "C" fn norx_seal(
+pub fn norx_seal(
     width: u32,
     rounds: u32,
     key: &[u8],
@@ -55,8 +54,7 @@ pub extern "C" fn norx_seal(
 }
 
 // Opens a sealed text at the width given as a number.
-#[unsafe(no_mangle)]
-pub extern "C" fn norx_open(
+pub fn norx_open(
     width: u32,
     rounds: u32,
     key: &[u8],
@@ -93,8 +91,7 @@ fn waiting(index: u64, complete: u32) -> Waiting
 }
 
 // Seals a segment of a job at the width given as a number; of last, 0 is no and every other number yes.
-#[unsafe(no_mangle)]
-pub extern "C" fn norx_segment_seal(
+pub fn norx_segment_seal(
     width: u32,
     rounds: u32,
     key: &[u8],
@@ -116,8 +113,7 @@ pub extern "C" fn norx_segment_seal(
 }
 
 // Opens the segment of a job that is awaited, at the width given as a number; of complete and last, 0 is no and every other number yes.
-#[unsafe(no_mangle)]
-pub extern "C" fn norx_segment_open(
+pub fn norx_segment_open(
     width: u32,
     rounds: u32,
     key: &[u8],
@@ -162,16 +158,14 @@ pub struct ListNumbers {
 }
 
 // How long the list of a body of so many bytes is; 0 where it has none.
-#[unsafe(no_mangle)]
-pub extern "C" fn norx_list_length(job: u64, revision: u64, body: u64) -> usize
+pub fn norx_list_length(job: u64, revision: u64, body: u64) -> usize
     ensures { result ≡ list_length job revision body }
 {
     lists::list_length(job, revision, body)
 }
 
 // Writes the list of a body of so many bytes; the answer is its number.
-#[unsafe(no_mangle)]
-pub extern "C" fn norx_list_write(job: u64, revision: u64, body: u64, out: &mut [u8]) -> u32
+pub fn norx_list_write(job: u64, revision: u64, body: u64, out: &mut [u8]) -> u32
     ensures answer { result ≡ number_of (write_answer job revision body out.old) }
     ensures output { out.new ≡ write_out job revision body out.old }
 {
@@ -179,8 +173,7 @@ pub extern "C" fn norx_list_write(job: u64, revision: u64, body: u64, out: &mut 
 }
 
 // Reads a text as a list.
-#[unsafe(no_mangle)]
-pub extern "C" fn norx_list_read(text: &[u8]) -> ListNumbers
+pub fn norx_list_read(text: &[u8]) -> ListNumbers
     ensures { ReadAsNumbers text.now result }
 {
     match lists::read_list(text) {
