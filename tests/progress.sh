@@ -53,7 +53,8 @@ check)
 lib)
     task="Building the library $name and what it uses"
     left=
-    run() { cd "crates/$name" && rt lib; }
+    # An archive can't ask which processor it is on, so it is compiled for every x86-64.
+    run() { cd "crates/$name" && rt lib --cpu x86-64; }
     ;;
 *)
     echo "$0: there is no command $command" >&2
