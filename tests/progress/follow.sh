@@ -60,6 +60,7 @@ follow_ci() {
     "rt: must-fail $edit.edit: BAD EDIT: "*) edit_to_look_at "BAD EDIT" ;;
     "rt: $name ran, and wrote what its file stdout has") show_notes && done_with "$name" ran ;;
     "rt: $name ran (built by Rattle's own compiler), and wrote "*) done_with "$name, by Rattle's compiler" ran ;;
+    "rt: $name: its tests are proved" | "rt: $name: its tests passed") pass_over_notes && printf '%s\n' "$line" ;;
     "rt: $name: trying its must-fail edits ("* | "rt: note: "* | "rt: warning: "*) printf '%s\n' "$line" ;;
     "rt: $name: "*" must-fail edits were tried by an earlier run on this machine, "*) ;;
     [0-9]*" passed, "[0-9]*" failed") show_notes && echo "rt ci: $line" ;;
