@@ -1,6 +1,9 @@
 -- Any two results that the contract of a public function allows are equal, with what every lent buffer then holds. Stated over the contracts' own readings.
 -- Assumes nothing.
 use mathlib.Core.Path.{◌≡◌, sym, ◌∙◌}
+use mathlib.Core.Logic.{⊎_elim}
+use lib.ListN.{length}
+use Rattle.std.proofs.lemmas.Bool.{cases_lt}
 use denote.Triple.Clauses.{AtExit}
 use contract.Lifetimes.{Lfts}
 use borrow.Fn.World.{ArgsD, ResD}
@@ -25,4 +28,5 @@ one_clear κs a r r' s s' p q = p ∙ sym q
 
 pub one_copy : (κs : Lfts 2) (a : ArgsD signature-copy κs) (r r' : ResD signature-copy κs) (s s' : AtExit (ended_of 2 kinds-copy.ps kinds-copy.r) κs)
     → Post-copy κs a r s → Post-copy κs a r' s' → s.1.0.now ≡ s'.1.0.now
-one_copy κs a r r' s s' p q = p ∙ sym q
+one_copy κs a r r' s s' p q =
+    ⊎_elim (λ h. p.1 h ∙ sym (q.1 h)) (λ h. p.0 h ∙ sym (q.0 h)) (cases_lt (length a.1.0.now) (length a.0.now))

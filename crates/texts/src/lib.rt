@@ -1,7 +1,7 @@
 // Texts copied, compared to the end, and cleared to the end.
 #![tactic(auto)]
 
-ghost use Rattle.std.specs.Prelude.{◌≡◌, ◌≤◌, ◌++◌, length, drop, replicate};
+ghost use Rattle.std.specs.Prelude.{◌≡◌, ◌<◌, ◌≤◌, ◌++◌, length, drop, replicate};
 ghost use Rattle.norx.specs.Norx.{same as same_of};
 
 fn same_bytes(a: &[u8], b: &[u8]) -> bool
@@ -39,10 +39,12 @@ pub fn clear(out: &mut [u8])
     }
 }
 
-// The bytes laid over the front of a text that is as long or longer.
+// The bytes laid over the front of a text; where it has no room for all of them it stays as it was.
 pub fn copy(from: &[u8], to: &mut [u8])
-    requires { length from.now ≤ length to.old }
-    ensures { to.new ≡ from.now ++ drop (length from.now) to.old }
+    ensures laid { length from.now ≤ length to.old → to.new ≡ from.now ++ drop (length from.now) to.old }
+    ensures kept { length to.old < length from.now → to.new ≡ to.old }
 {
-    to[..from.len()].copy_from_slice(from);
+    if from.len() <= to.len() {
+        to[..from.len()].copy_from_slice(from);
+    }
 }

@@ -16,12 +16,12 @@ returns-in_default c =
 pub zero_at-requires : goal.zero_at-requires
 zero_at-requires c =
     let one = rw c.in-Value.is at c.one_digit.ensures in
-    (c.if-text-at.false, omega (arith, (one_inv _ _ one.1).0, c.if-first-eq0.true))
+    (c.if-text-at.false, omega (arith, (one_inv _ _ one.1).0))
 
 pub loop-i-init : goal.loop-i-init
 loop-i-init c =
     let x = c.args in
-    (begins x.text.now x.at _ c.if-text-at.false (rw c.in-Value.is at c.one_digit.ensures), omega (arith, c.if-first-eq0.false))
+    (begins x.text.now x.at _ c.if-text-at.false (rw c.in-Value.is at c.one_digit.ensures), omega arith)
 
 pub returns-then-not-is_digit : goal.returns-then-not-is_digit
 returns-then-not-is_digit c =

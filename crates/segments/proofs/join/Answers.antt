@@ -13,5 +13,5 @@ returns c =
     let x = c.args in
     let n : ℕ = length x.first.now in
     let long : n ≡ length (take (n - 0) x.out.now) = sym (length-take-le (n - 0) x.out.now (omega (arith, c.requires)) ∙ omega arith) in
-    let first = c.copy.ensures ∙ copied x.first.now (take (n - 0) x.out.now) long in
-    laid x.out.now x.first.now x.second.now c.requires first refl c.copy-2.ensures
+    let first = (c.copy.ensures.laid (omega arith)) ∙ copied x.first.now (take (n - 0) x.out.now) long in
+    laid x.out.now x.first.now x.second.now c.requires first refl (c.copy-2.ensures.laid (omega arith))

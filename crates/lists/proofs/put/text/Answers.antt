@@ -1,4 +1,5 @@
 -- `lists::put::text`: a copy is the text laid.
+use native.Mathlib.Omega.{arith}
 use mathlib.Core.Path.{refl, ap, ◌∙◌}
 use mathlib.Core.List.{List, ◌++◌}
 use Prim.Native.Nat.{ℕ, ◌-◌}
@@ -11,4 +12,4 @@ returns c =
     let x = c.args in
     let l = x.out.now in
     let room = length l - x.at in
-    record { place = refl; text = ap (λ (y : List ℕ). take x.at l ++ (y ++ drop room (drop x.at l))) c.copy.ensures ∙ text_laid l x.x.now x.at c.requires refl }
+    record { place = refl; text = ap (λ (y : List ℕ). take x.at l ++ (y ++ drop room (drop x.at l))) (c.copy.ensures.laid (omega arith)) ∙ text_laid l x.x.now x.at c.requires refl }

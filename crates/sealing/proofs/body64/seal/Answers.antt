@@ -1,4 +1,5 @@
 -- `sealing::body64::seal`: what its calls leave is ciphertext and tag, whether there is a trailer or not.
+use native.Mathlib.Omega.{arith}
 use mathlib.Core.Path.{◌≡◌, sym, ◌∙◌}
 use Prim.Native.Nat.{◌+◌}
 use borrow.Author.Tests.{eq-eqb, ne_eqb}
@@ -18,7 +19,7 @@ returns-then-trailer-eq0 c =
     let long : length x.out.now ≡ length x.body.now + tag_bytes word64 = c.if-out-n.true in
     sealed_of word64 l x.key x.s x.body.now x.trailer.now x.out.now long
     c.encrypt-t.ensures.state c.encrypt-t.ensures.output (part_none word64 l trailer_mark c.encrypt-t.result x.trailer.now c.if-trailer-eq0.true)
-    c.tag-own.ensures c.copy.ensures
+    c.tag-own.ensures (c.copy.ensures.laid (omega arith))
     ∙ sym (cond_true _ _ _ (eq-eqb (length x.out.now) (length x.body.now + tag_bytes word64) long))
 
 pub returns-else-trailer-eq0 : goal.returns-else-trailer-eq0
@@ -26,7 +27,7 @@ returns-else-trailer-eq0 c =
     let x = c.args in
     let long : length x.out.now ≡ length x.body.now + tag_bytes word64 = c.if-out-n.true in
     sealed_of word64 (rounds_of word64 x.rounds) x.key x.s x.body.now x.trailer.now x.out.now long
-    c.encrypt-t.ensures.state c.encrypt-t.ensures.output c.absorb.ensures c.tag-own-else-trailer-eq0.ensures c.copy-else-trailer-eq0.ensures
+    c.encrypt-t.ensures.state c.encrypt-t.ensures.output c.absorb.ensures c.tag-own-else-trailer-eq0.ensures (c.copy-else-trailer-eq0.ensures.laid (omega arith))
     ∙ sym (cond_true _ _ _ (eq-eqb (length x.out.now) (length x.body.now + tag_bytes word64) long))
 
 -- nothing is written only where the lengths differ

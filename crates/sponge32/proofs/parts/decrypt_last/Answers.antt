@@ -21,18 +21,13 @@ slice_bounds-copy-end c =
     let e = ap length c.rate_bytes-r.ensures ∙ length-rate_of word32 _ in
     sym (length-take-le (length c.args.left.now) c.rate_bytes-r.result (omega arith))
 
-pub copy-requires : goal.copy-requires
-copy-requires c =
-    let e = ap length c.rate_bytes-r.ensures ∙ length-rate_of word32 _ in
-    omega (arith, length-take-le (length c.args.left.now) c.rate_bytes-r.result (omega arith))
-
 pub returns : goal.returns
 returns c =
     let x = c.args.left.now in
     let l = ap length c.rate_bytes-r.ensures ∙ length-rate_of word32 _ in
     let k = length-take-le (length x) c.rate_bytes-r.result (omega arith) in
     let text =
-    c.copy.ensures ∙ copied (take (length x) c.rate_bytes-r.result) c.args.out.now (omega arith)
+    (c.copy.ensures.laid (omega arith)) ∙ copied (take (length x) c.rate_bytes-r.result) c.args.out.now (omega arith)
     ∙ recovered_of word32 c.enter-e.result x (le_of_lt c.requires.0) (λ i. (c.type_inv.left i).fits)
     c.filled-b.ensures c.xor_block.ensures c.rate_bytes-r.ensures
     ∙ ap (λ (s : State). xors (take (length x) (rate_of word32 s)) x) c.enter-e.ensures in record { state = c.xor_block-2.ensures ∙ ap₂ (λ (s : State) (b : List ℕ). xor_block word32 s b) c.enter-e.ensures (padded_of c.padded-p.result text c.padded-p.ensures); output = text }

@@ -1,4 +1,5 @@
 -- `sponge32::pieces::show_rate` copies a part of the rate.
+use native.Mathlib.Omega.{arith}
 use Rattle.norx.specs.Norx.{word32}
 use Rattle.norx.proofs.FedText.{written_rate}
 use Rattle.sponge32.proofs.pieces.show_rate.Goals as goal
@@ -6,4 +7,4 @@ use Rattle.sponge32.proofs.pieces.show_rate.Goals as goal
 pub returns : goal.returns
 returns c =
     let x = c.args in
-    written_rate word32 0 x.t x.j x.out.now c.requires c.rate_bytes-r.ensures c.copy.ensures
+    written_rate word32 0 x.t x.j x.out.now c.requires c.rate_bytes-r.ensures (c.copy.ensures.laid (omega arith))

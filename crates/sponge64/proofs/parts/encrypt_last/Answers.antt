@@ -13,11 +13,6 @@ slice_bounds-copy-end c =
     let e = ap length c.rate_bytes-r.ensures ∙ length-rate_of word64 _ in
     sym (length-take-le (length c.args.left.now) c.rate_bytes-r.result (omega arith))
 
-pub copy-requires : goal.copy-requires
-copy-requires c =
-    let e = ap length c.rate_bytes-r.ensures ∙ length-rate_of word64 _ in
-    omega (arith, length-take-le (length c.args.left.now) c.rate_bytes-r.result (omega arith))
-
 pub returns : goal.returns
 returns c =
     let x = c.args in
@@ -25,6 +20,6 @@ returns c =
     let e = ap length c.rate_bytes-r.ensures ∙ length-rate_of word64 _ in
     let l = length-take-le k c.rate_bytes-r.result (omega arith) in record {
       state = c.absorb_last-t.ensures;
-      output = c.copy.ensures ∙ copied (take k c.rate_bytes-r.result) x.out.now (omega arith)
+      output = (c.copy.ensures.laid (omega arith)) ∙ copied (take k c.rate_bytes-r.result) x.out.now (omega arith)
           ∙ ap (take k) (c.rate_bytes-r.ensures ∙ ap (rate_of word64) c.absorb_last-t.ensures);
     }

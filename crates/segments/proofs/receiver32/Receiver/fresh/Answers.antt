@@ -11,7 +11,7 @@ use Rattle.segments.proofs.receiver32.Receiver.fresh.Goals as goal
 pub returns : goal.returns
 returns c =
     let x = c.args in
-    let key = c.copy.ensures ∙ copied x.key.now _ (omega (arith, c.requires.0)) in
-    let nonce = c.copy-2.ensures ∙ copied x.nonce.now _ (omega (arith, c.requires.1)) in
+    let key = (c.copy.ensures.laid (omega arith)) ∙ copied x.key.now _ (omega (arith, c.requires.0)) in
+    let nonce = (c.copy-2.ensures.laid (omega arith)) ∙ copied x.nonce.now _ (omega (arith, c.requires.1)) in
     c.first.ensures
     ∙ ap₂ (λ (k n : List ℕ). made32 (record { key = k; nonce = n; terms = x.terms; waiting = waiting_first })) key nonce

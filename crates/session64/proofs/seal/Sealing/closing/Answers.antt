@@ -21,21 +21,6 @@ own_tag-own-requires c =
     let fits = close_fits sealing64 x.self x.edition x.tag.now found c.if-done.true in
     (fits.0, fits.1)
 
-pub copy-requires : goal.copy-requires
-copy-requires c =
-    let x = c.args in
-    let found : CloseFound sealing64 x.self x.edition x.tag.now = record {
-      place = _;
-      answer = _;
-      done = _;
-      place_is = c.place-p.ensures;
-      answer_is = c.close_answer-answer.ensures;
-      done_is = c.done.ensures;
-    } in
-    let long = (close_fits sealing64 x.self x.edition x.tag.now found c.if-done.true).2 in
-    let same = own_long word64 _ _ _ x.tag.now c.own_tag-own.ensures long in
-    omega (arith, same)
-
 pub returns-then-done : goal.returns-then-done
 returns-then-done c =
     let x = c.args in
@@ -54,7 +39,7 @@ returns-then-done c =
       rows_is = c.rows.ensures;
       tag_is = c.own_tag-own.ensures;
     } in
-    let copied = copied_over _ x.tag.now (own_long word64 _ _ _ x.tag.now c.own_tag-own.ensures long) c.copy.ensures in record { step = close_done sealing64 x.self x.edition x.tag.now found c.if-done.true made _ _ refl c.closed-closed.ensures; tag = copied ∙ close_tag_lem sealing64 x.self x.edition x.tag.now found c.if-done.true made }
+    let copied = copied_over _ x.tag.now (own_long word64 _ _ _ x.tag.now c.own_tag-own.ensures long) (c.copy.ensures.laid (omega arith)) in record { step = close_done sealing64 x.self x.edition x.tag.now found c.if-done.true made _ _ refl c.closed-closed.ensures; tag = copied ∙ close_tag_lem sealing64 x.self x.edition x.tag.now found c.if-done.true made }
 
 pub returns-else-done : goal.returns-else-done
 returns-else-done c =
