@@ -7,9 +7,9 @@
 PREFIX ?= /usr/local
 MAKEFLAGS += --no-print-directory
 
-# How many minutes make and make test take from nothing; empty where it was not measured.
+# How many minutes make and make test take from nothing, measured on four cores of an x86-64 host; empty where it was not measured.
 minutes_of_all =
-minutes_of_test =
+minutes_of_test = 22
 
 all:
 	@MINUTES='$(minutes_of_all)' tests/progress.sh all

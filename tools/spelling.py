@@ -3,7 +3,7 @@
 
 usage: tools/spelling.py [FOLDER]
 
-Run it once, at the top, behind /opt/rattle/port/port.py. It goes by tools/spelling.tsv, a line 'old TAB new' for each name, with 'field' behind a record's field, and rewrites
+Run it once, at the top, behind the kit's port.py. It goes by tools/spelling.tsv, a line 'old TAB new' for each name, with 'field' behind a record's field, and rewrites
 the .rt, .antt and .edit files below crates/. A dashed name behind a dot that is no field is one that Rattle makes, and stays; so do comments,
 but for names of more than one word in camel case.
 """
