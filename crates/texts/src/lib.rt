@@ -4,39 +4,25 @@
 ghost use Rattle.std.specs.Prelude.{◌≡◌, ◌<◌, ◌≤◌, ◌++◌, length, drop, replicate};
 ghost use Rattle.norx.specs.Norx.{same as same_of};
 
-fn same_bytes(a: &[u8], b: &[u8]) -> bool
-    requires { length a.now ≡ length b.now }
-    ensures { result ≡ same_of a.now b.now }
-{
-    let mut ok = true;
-    let mut i = 0;
-    while i < a.len() {
-        ok = ok & (a[i] == b[i]);
-        i += 1;
-    }
-    ok
-}
-
 // Whether two texts are the same; where they are of one length, every byte is looked at.
 pub fn same(a: &[u8], b: &[u8]) -> bool
     ensures { result ≡ same_of a.now b.now }
 {
-    if a.len() == b.len() {
-        same_bytes(a, b)
-    } else {
-        false
+    if a.len() != b.len() {
+        return false;
     }
+    let mut ok = true;
+    for (x, y) in a.iter().zip(b) {
+        ok &= x == y;
+    }
+    ok
 }
 
 // Zeros in every byte.
 pub fn clear(out: &mut [u8])
     ensures { out.new ≡ replicate (length out.old) 0 }
 {
-    let mut i = 0;
-    while i < out.len() {
-        out[i] = 0;
-        i += 1;
-    }
+    out.fill(0);
 }
 
 // The bytes laid over the front of a text; where it has no room for all of them it stays as it was.
