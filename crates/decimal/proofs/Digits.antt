@@ -1,25 +1,21 @@
 -- The text of a number, digit by digit: two numbers have two texts, and what begins a number's text is a number's text too.
 -- Assumes nothing.
 use mathlib.Core.Path.{◌≡◌, refl, sym, ap, ◌∙◌}
-use mathlib.Core.Logic.{◌⊎◌, inl, inr, ⊎_elim}
+use mathlib.Core.Logic.{⊎_elim}
 use mathlib.Core.List.{List, [], ◌∷◌, ◌++◌, head-eq_of_cons-eq, tail-eq_of_cons-eq}
 use Prim.Native.Nat.{ℕ, zero, suc, ◌+◌, ◌-◌, ◌*◌, ◌/◌, ◌%◌, ◌<◌, ◌≤◌, ◌^◌}
 use native.Mathlib.Omega.{arith}
-use native.Mathlib.Decide.{dec_lt}
 use native.Mathlib.Nat.{not-suc-le-zero, le_refl, pow-suc, div-lt_iff_lt-mul}
 use lib.Dec.{lit<}
 use lib.ListN.{length, take, length-append}
 use lib.Seq.{take-append-le, take_all}
 use borrow.Author.Tests.{lt-ltb, le-ltb}
+use Rattle.std.specs.Prelude.{Option, Some, None}
+use Rattle.std.specs.Option.{IfNone, IfSome, unwrap_or}
+use Rattle.std.proofs.lemmas.Bool.{cases_lt}
+use Rattle.std.specs.List.{All}
+use Rattle.std.proofs.lemmas.List.Elements.{All-nil, All-cons, All-push}
 use Rattle.decimal.specs.Decimal.{digit, digits, num_text}
-use Rattle.decimal.proofs.Every.{All, all_append}
-
-pub lt_or_ge : (m n : ℕ) → (m < n) ⊎ (n ≤ m)
-lt_or_ge m n = of (dec_lt m n)
-  where
-    of : Dec (m < n) → (m < n) ⊎ (n ≤ m)
-    of (yes h) = inl h
-    of (no h) = inr (omega arith)
 
 -- ---- One digit, and one digit more
 
@@ -40,7 +36,7 @@ digits_same (suc k) (suc j) n hk hj =
     ⊎_elim (λ h. digits_small (suc k) n h ∙ sym (digits_small (suc j) n h))
     (λ h.
     digits_step k n h ∙ ap (λ (l : List ℕ). l ++ (digit (n % 10) ∷ [])) (digits_same k j (n / 10) (omega arith) (omega arith))
-    ∙ sym (digits_step j n h)) (lt_or_ge n 10)
+    ∙ sym (digits_step j n h)) (cases_lt n 10)
 
 pub num_small : (n : ℕ) → n < 10 → num_text n ≡ digit n ∷ []
 unfolding num_text
@@ -59,7 +55,7 @@ num_ind P one more n = go n n (le_refl n)
   where
     go : (k n : ℕ) → n ≤ k → P n
     go zero n h = one n (omega arith)
-    go (suc k) n h = ⊎_elim (one n) (λ g. more n g (go k (n / 10) (omega arith))) (lt_or_ge n 10)
+    go (suc k) n h = ⊎_elim (one n) (λ g. more n g (go k (n / 10) (omega arith))) (cases_lt n 10)
 
 -- ---- How many digits
 
@@ -79,7 +75,27 @@ length_below (suc k) n h =
     ⊎_elim (λ s. omega (arith, length_small n s))
     (λ g.
     let q : n / 10 < 10 ^ suc k = (div-lt_iff_lt-mul (lit< tt)).1 (rw (pow-suc 10 (suc k)) at h) in
-    omega (arith, length_more n g, length_below k (n / 10) q)) (lt_or_ge n 10)
+    omega (arith, length_more n g, length_below k (n / 10) q)) (cases_lt n 10)
+
+-- and one from 10 to the k on has more than k digits
+pub length_from_power : (k n : ℕ) → 10 ^ k ≤ n → suc k ≤ length (num_text n)
+length_from_power zero n h = length_pos n
+length_from_power (suc k) n h =
+    let e : 10 ^ suc k ≡ 10 ^ k * 10 = pow-suc 10 k in
+    let some : 1 ≤ 10 ^ k = power_some k in
+    omega (arith, e, length_more n (omega (arith, e)), length_from_power k (n / 10) (omega (arith, e)))
+  where
+    power_some : (k : ℕ) → 1 ≤ 10 ^ k
+    power_some zero = omega arith
+    power_some (suc k) = omega (arith, pow-suc 10 k, power_some k)
+
+pub length_log : (k n : ℕ) → 10 ^ k ≤ n → n < 10 * 10 ^ k → length (num_text n) ≡ k + 1
+length_log k n from to = omega (arith, length_from_power k n from, length_below k n (omega (arith, pow-suc 10 k)))
+
+-- what the logarithm says, which 0 has not
+pub log_length : (n : ℕ) (r : Option ℕ) → IfNone r (n ≡ 0) → IfSome r (λ k. 10 ^ k ≤ n) → IfSome r (λ k. n < 10 * 10 ^ k) → unwrap_or r 0 + 1 ≡ length (num_text n)
+log_length n (Some k) none from to = sym (length_log k n from to)
+log_length n None none from to = sym (length_small n (omega (arith, none)))
 
 -- every byte is a digit's
 abbrev pub Digit : ℕ → Type 0
@@ -87,8 +103,8 @@ Digit b = (48 ≤ b) × (b ≤ 57)
 
 pub num_digits : (n : ℕ) → All Digit (num_text n)
 num_digits =
-    num_ind (λ n. All Digit (num_text n)) (λ n h. rw (num_small n h) ((omega arith, omega arith), tt))
-    (λ n h ih. rw (num_more n h) (all_append Digit (num_text (n / 10)) (digit (n % 10) ∷ []) ih ((omega arith, omega arith), tt)))
+    num_ind (λ n. All Digit (num_text n)) (λ n h. rw (num_small n h) (All-cons Digit (digit n) [] (omega arith, omega arith) (All-nil Digit)))
+    (λ n h ih. rw (num_more n h) (All-push Digit (num_text (n / 10)) (digit (n % 10)) ih (omega arith, omega arith)))
 
 -- ---- Two numbers have two texts
 
@@ -131,7 +147,7 @@ num_snoc v b n e =
     (λ h. absurd (omega (arith, length_pos v, length_small n h, simp length-append at (ap length e))))
     (λ h.
     let r = snoc_inj (num_text v) (num_text (n / 10)) b (digit (n % 10)) (e ∙ num_more n h) in
-    (num_inj v (n / 10) r.0, r.1, h)) (lt_or_ge n 10)
+    (num_inj v (n / 10) r.0, r.1, h)) (cases_lt n 10)
 
 -- the first digits of a number are the text of a number that is no greater
 pub num_take : (n i : ℕ) → 1 ≤ i → i ≤ length (num_text n) → (m : ℕ) × (m ≤ n) × (take i (num_text n) ≡ num_text m)
@@ -144,4 +160,4 @@ num_take n i p =
     let k : i ≤ length (num_text (n / 10)) = omega (arith, length_more n h) in
     let r = ih k in
     (r.0, omega arith, ap (take i) (num_more n h) ∙ take-append-le i (num_text (n / 10)) (digit (n % 10) ∷ []) k ∙ r.2))
-    (λ g. (n, le_refl n, take_all i (num_text n) g)) (lt_or_ge i (length (num_text n)))) n
+    (λ g. (n, le_refl n, take_all i (num_text n) g)) (cases_lt i (length (num_text n)))) n

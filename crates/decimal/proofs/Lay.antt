@@ -2,13 +2,17 @@
 -- Assumes nothing.
 use mathlib.Core.Path.{◌≡◌, sym, ap, ap₂, ◌∙◌}
 use mathlib.Core.List.{List, [], ◌∷◌, ◌++◌, append_assoc, append-nil}
-use Prim.Native.Nat.{ℕ, suc, ◌+◌, ◌≤◌, ◌<◌}
+use mathlib.Core.Logic.{⊎_elim}
+use Prim.Native.Nat.{ℕ, suc, ◌+◌, ◌-◌, ◌/◌, ◌%◌, ◌≤◌, ◌<◌}
 use native.Mathlib.Omega.{arith}
 use native.Mathlib.Nat.{add_assoc, add-zero}
 use native.Mathlib.Numerals.{add-one}
 use lib.ListN.{length, take, drop, set, length-append, length-drop, drop_of_length-le, take-append-drop}
-use lib.Seq.{length-take-le, take_at, drop_at, drop-drop, set_split, take-set-le}
+use lib.Seq.{length-take-le, take_at, drop_at, drop-drop, set_split}
 use borrow.Author.Tests.{le-leb, lt-leb}
+use Rattle.std.proofs.lemmas.Bool.{cases_lt}
+use Rattle.decimal.specs.Decimal.{digit, num_text}
+use Rattle.decimal.proofs.Digits.{num_small, num_more, length_small, length_more, length_pos}
 use Rattle.decimal.specs.Laid.{laid, put_at, put_end}
 
 pub length_laid : (l : List ℕ) (at : ℕ) (x : List ℕ) → at + length x ≤ length l → length (laid l at x) ≡ length l
@@ -36,17 +40,10 @@ laid_next l at x y h =
     ap₂ (λ (a b : List ℕ). a ++ (y ++ b)) t d ∙ append_assoc (take at l) x (y ++ drop (at + length (x ++ y)) l)
     ∙ ap (λ (a : List ℕ). take at l ++ a) (sym (append_assoc x y (drop (at + length (x ++ y)) l)))
 
--- a byte first, and then x before it
-pub laid_before : (l x : List ℕ) (at i b : ℕ) → i ≡ at + length x → i < length l → laid (set l i b) at x ≡ laid l at (x ++ (b ∷ []))
+-- x, as the code cuts out the bytes that it is laid over
+pub laid_cut : (l x : List ℕ) (at k : ℕ) → k ≡ length x → take at l ++ (x ++ drop k (drop at l)) ≡ laid l at x
 unfolding laid
-laid_before l x at i b e h =
-    let s : set l i b ≡ take i l ++ (b ∷ drop (suc i) l) = set_split l i b h in
-    let n : length (take i l) ≡ i = length-take-le i l (omega arith) in
-    let t : take at (set l i b) ≡ take at l = take-set-le at l i b (omega arith) in
-    let d : drop (at + length x) (set l i b) ≡ b ∷ drop (suc i) l = ap₂ drop (sym e) s ∙ drop_at (take i l) (b ∷ drop (suc i) l) i n in
-    let k : suc i ≡ at + length (x ++ (b ∷ [])) = omega (arith, length-append x (b ∷ [])) in
-    ap₂ (λ (y z : List ℕ). y ++ (x ++ z)) t d ∙ ap (λ (y : List ℕ). take at l ++ y) (sym (append_assoc x (b ∷ []) (drop (suc i) l)))
-    ∙ ap (λ (m : ℕ). take at l ++ ((x ++ (b ∷ [])) ++ drop m l)) k
+laid_cut l x at k e = ap (λ (r : List ℕ). take at l ++ (x ++ r)) (drop-drop k at l ∙ ap (λ (m : ℕ). drop (at + m) l) e)
 
 -- a text as long as the bytes takes their place, and none changes nothing
 pub laid_all : (l x : List ℕ) → length x ≡ length l → laid l 0 x ≡ x
@@ -65,3 +62,36 @@ put_room x at l h = (rw (le-leb (at + length x) (length l) h), rw (le-leb (at + 
 pub put_full : (x : List ℕ) (at : ℕ) (l : List ℕ) → length l < at + length x → (put_end x at l ≡ at) × (put_at x at l ≡ l)
 unfolding put_at put_end
 put_full x at l h = (rw (lt-leb (at + length x) (length l) h), rw (lt-leb (at + length x) (length l) h))
+
+-- ---- A number's digits, from the last to the first
+
+-- the first i bytes are for the text of v, and with that they are n's
+pub record Left (n v i : ℕ) (out : List ℕ) : Type 0 where
+  pub some : 1 ≤ i → (length (num_text v) ≡ i) × (num_text v ++ drop i out ≡ num_text n)
+  pub none : i ≡ 0 → out ≡ num_text n
+
+pub all_left : (n : ℕ) (out : List ℕ) → length out ≡ length (num_text n) → Left n n (length out) out
+all_left n out e = record {
+  some = λ h. (sym e, ap (λ (l : List ℕ). num_text n ++ l) (drop_of_length-le out {i = length out} (omega arith)) ∙ append-nil (num_text n));
+  none = λ z. absurd (omega (arith, length_pos n));
+}
+
+pub one_less : (n v i : ℕ) (out : List ℕ) → Left n v i out → 0 < i → i ≤ length out → Left n (v / 10) (i - 1) (set out (i - 1) (digit (v % 10)))
+one_less n v i out left h within =
+    let was = left.some h in
+    let b : ℕ = digit (v % 10) in
+    let s : set out (i - 1) (digit (v % 10)) ≡ take (i - 1) out ++ (digit (v % 10) ∷ drop (suc (i - 1)) out) = set_split out (i - 1) b (omega arith) in
+    let next : suc (i - 1) ≡ i = omega arith in
+    let d : drop (i - 1) (set out (i - 1) (digit (v % 10))) ≡ digit (v % 10) ∷ drop i out =
+    ap (drop (i - 1)) s ∙ drop_at (take (i - 1) out) (b ∷ drop (suc (i - 1)) out) (i - 1) (length-take-le (i - 1) out (omega arith)) ∙ ap (λ (k : ℕ). digit (v % 10) ∷ drop k out) next in
+    ⊎_elim
+    (λ (one : v < 10).
+    let same : v % 10 ≡ v = omega arith in
+    let e : i ≡ 1 = omega (arith, was.0, length_small v one) in
+    record { some = λ p. absurd (omega (arith, e)); none = λ z. ap (λ (k : ℕ). set out k (digit (v % 10))) z ∙ set_split out 0 (digit (v % 10)) (omega arith) ∙ ap₂ (λ (k m : ℕ). digit k ∷ drop m out) same (sym e) ∙ ap (λ (l : List ℕ). l ++ drop i out) (sym (num_small v one)) ∙ was.1 })
+    (λ (more : 10 ≤ v).
+    let e : length (num_text (v / 10)) ≡ i - 1 = omega (arith, was.0, length_more v more) in
+    record {
+      some = λ p. (e, ap (λ (l : List ℕ). num_text (v / 10) ++ l) d ∙ sym (append_assoc (num_text (v / 10)) (b ∷ []) (drop i out)) ∙ ap (λ (l : List ℕ). l ++ drop i out) (sym (num_more v more)) ∙ was.1);
+      none = λ z. absurd (omega (arith, e, length_pos (v / 10)));
+    }) (cases_lt v 10)

@@ -1,4 +1,3 @@
-pub mod Every
 pub mod Digits
 pub mod Reading
 pub mod Runs

@@ -3,44 +3,44 @@
 use mathlib.Core.Path.{◌≡◌, refl, sym, ap, ap₂, ◌∙◌}
 use mathlib.Core.Logic.{⊎_elim}
 use mathlib.Core.List.{List, [], ◌∷◌, ◌++◌, head-eq_of_cons-eq}
-use Prim.Native.Nat.{ℕ, ◌+◌, ◌-◌, ◌*◌, ◌/◌, ◌%◌, ◌<◌, ◌≤◌}
+use Prim.Native.Nat.{ℕ, ◌+◌, ◌-◌, ◌*◌, ◌/◌, ◌%◌, ◌<◌, ◌≤◌, ◌^◌}
 use native.Mathlib.Omega.{arith}
 use lib.ListN.{length}
+use Rattle.std.specs.Prelude.{Option, Some, None}
+use Rattle.std.specs.Option.{SomeIff}
+use Rattle.std.proofs.lemmas.Bool.{cases_lt}
 use Rattle.decimal.specs.Decimal.{digit, num_text, NumberIs}
-use Rattle.decimal.specs.declared.Number.{Number}
-use Rattle.decimal.specs.declared.Number.TheVariants.{Value, Nothing}
-use Rattle.decimal.proofs.Digits.{lt_or_ge, num_small, num_more, length_more, length_pos, num_inj, num_snoc}
+use Rattle.decimal.proofs.Digits.{num_small, num_more, length_more, length_pos, num_inj, num_snoc}
 
 -- a number's text of one byte
 pub one_inv : (b n : ℕ) → b ∷ [] ≡ num_text n → (b ≡ digit n) × (n < 10)
 one_inv b n e =
     ⊎_elim (λ h. (head-eq_of_cons-eq (e ∙ num_small n h), h))
-    (λ h. absurd (omega (arith, ap length e, length_more n h, length_pos (n / 10)))) (lt_or_ge n 10)
+    (λ h. absurd (omega (arith, ap length e, length_more n h, length_pos (n / 10)))) (cases_lt n 10)
 
 pub one_is : (b : ℕ) → 48 ≤ b → b ≤ 57 → b ∷ [] ≡ num_text (b - 48)
 one_is b lo hi =
     let e : b ≡ digit (b - 48) = omega arith in
     ap (λ (k : ℕ). k ∷ []) e ∙ sym (num_small (b - 48) (omega arith))
 
--- v's text and a byte more: a number's text where the byte is a digit n, and then that of v * 10 + n
-pub more_is : (v b n : ℕ) → 1 ≤ v → b ∷ [] ≡ num_text n → num_text v ++ (b ∷ []) ≡ num_text (v * 10 + n)
-more_is v b n p e =
-    let f = one_inv b n e in
-    let q : v ≡ (v * 10 + n) / 10 = omega arith in
-    let r : b ≡ digit ((v * 10 + n) % 10) = omega arith in
-    ap₂ (λ (m k : ℕ). num_text m ++ (k ∷ [])) q r ∙ sym (num_more (v * 10 + n) (omega arith))
+-- v's text and a digit more: that of v * 10 + d, and of no number where v is 0
+pub more_is : (v d : ℕ) → 1 ≤ v → d < 10 → num_text v ++ (digit d ∷ []) ≡ num_text (v * 10 + d)
+more_is v d p h =
+    let q : v ≡ (v * 10 + d) / 10 = omega arith in
+    let r : digit d ≡ digit ((v * 10 + d) % 10) = omega arith in
+    ap₂ (λ (m k : ℕ). num_text m ++ (k ∷ [])) q r ∙ sym (num_more (v * 10 + d) (omega arith))
 
-pub more_inv : (v b n m : ℕ) → b ∷ [] ≡ num_text n → num_text v ++ (b ∷ []) ≡ num_text m → m ≡ v * 10 + n
-more_inv v b n m e f = omega (arith, one_inv b n e, num_snoc v b m f)
+pub more_inv : (v d m : ℕ) → d < 10 → num_text v ++ (digit d ∷ []) ≡ num_text m → (m ≡ v * 10 + d) × (1 ≤ v)
+more_inv v d m h e = let s = num_snoc v (digit d) m e in (omega (arith, s), omega (arith, s))
 
-pub no_more : (v b : ℕ) → NumberIs (b ∷ []) Nothing → NumberIs (num_text v ++ (b ∷ [])) Nothing
-no_more v b none m lt e =
-    let r = num_snoc v b m e in
-    none (m % 10) (omega arith) (ap (λ (k : ℕ). k ∷ []) r.1 ∙ sym (num_small (m % 10) (omega arith)))
+-- the sum where it has 64 bits, and else no number
+pub more_number : (v d : ℕ) (r : Option ℕ) → 1 ≤ v → d < 10 → SomeIff r (v * 10 + d < 2 ^ 64) (v * 10 + d) → NumberIs (num_text v ++ (digit d ∷ [])) r
+more_number v d (Some n) p h is = (omega (arith, is), more_is v d p h ∙ ap num_text (sym is.1))
+more_number v d None p h is = λ n lt e. is (omega (arith, (more_inv v d n h e).0))
 
 -- a text is one number, or none
-pub number_unique : (d : List ℕ) (a b : Number) → NumberIs d a → NumberIs d b → a ≡ b
-number_unique d (Value m) (Value n) p q = ap Value (num_inj m n (sym p.1 ∙ q.1))
-number_unique d (Value m) Nothing p q = absurd (q m p.0 p.1)
-number_unique d Nothing (Value n) p q = absurd (p n q.0 q.1)
-number_unique d Nothing Nothing p q = refl
+pub number_unique : (d : List ℕ) (a b : Option ℕ) → NumberIs d a → NumberIs d b → a ≡ b
+number_unique d (Some m) (Some n) p q = ap Some (num_inj m n (sym p.1 ∙ q.1))
+number_unique d (Some m) None p q = absurd (q m p.0 p.1)
+number_unique d None (Some n) p q = absurd (p n q.0 q.1)
+number_unique d None None p q = refl

@@ -7,15 +7,16 @@ use mathlib.Core.List.{List, [], ◌∷◌, ◌++◌, append_assoc, append-nil}
 use Prim.Native.Nat.{ℕ, ◌+◌, ◌-◌, ◌<◌, ◌≤◌, ◌^◌}
 use native.Mathlib.Omega.{arith}
 use native.Mathlib.Numerals.{add-one}
-use borrow.Author.Tests.{le-leb, lt-leb}
+use borrow.Author.Tests.{le-leb, lt-leb, eqb-true, eq-eqb}
 use lib.ListN.{length, take, drop, get_or, length-append, drop_of_length-le}
 use lib.Seq.{drop-cons, take-append_seam}
-use Rattle.decimal.specs.Decimal.{num_text, is_digit, digits_of, NumberIs, FoundIs}
-use Rattle.decimal.specs.declared.Number.TheVariants.{Value, Nothing}
-use Rattle.decimal.specs.declared.Found.{Found}
-use Rattle.decimal.specs.declared.Found.TheVariants.{Here, NoNumber}
-use Rattle.decimal.proofs.Every.{All}
-use Rattle.decimal.proofs.Digits.{lt_or_ge, Digit, num_digits, num_small, num_take, num_snoc, num_inj, length_pos}
+use Rattle.std.specs.Prelude.{Option, Some, None, eqb}
+use Rattle.std.proofs.lemmas.Bool.{cases_lt}
+use Rattle.std.specs.Bool.{then_some}
+use Rattle.std.specs.List.{All}
+use Rattle.std.proofs.lemmas.List.Elements.{All-head, All-tail}
+use Rattle.decimal.specs.Decimal.{digit, num_text, is_digit, digits_of, NumberIs, FoundIs}
+use Rattle.decimal.proofs.Digits.{Digit, num_digits, num_take, num_inj, length_pos}
 use Rattle.decimal.proofs.Reading.{one_inv, one_is}
 
 -- ---- One byte
@@ -29,27 +30,20 @@ unfolding is_digit
 no_digit b h =
     ⊎_elim (λ (l : b < 48). rw (lt-leb 48 b l))
     (λ (g : 48 ≤ b).
-    ⊎_elim (λ (m : 57 < b). rw (le-leb 48 b g, lt-leb b 57 m)) (λ (k : b ≤ 57). absurd (h (g, k))) (lt_or_ge 57 b)) (lt_or_ge b 48)
+    ⊎_elim (λ (m : 57 < b). rw (le-leb 48 b g, lt-leb b 57 m)) (λ (k : b ≤ 57). absurd (h (g, k))) (cases_lt 57 b)) (cases_lt b 48)
 
-value_digit : (b v : ℕ) → NumberIs (b ∷ []) (Value v) → is_digit b ≡ true
+value_digit : (b v : ℕ) → NumberIs (b ∷ []) (Some v) → is_digit b ≡ true
 value_digit b v p = let s = one_inv b v p.1 in is_digit_lem b (omega (arith, s), omega (arith, s))
 
-nothing_digit : (b : ℕ) → NumberIs (b ∷ []) Nothing → is_digit b ≡ false
+nothing_digit : (b : ℕ) → NumberIs (b ∷ []) None → is_digit b ≡ false
 nothing_digit b none = no_digit b (λ h. none (b - 48) (omega arith) (one_is b h.0 h.1))
-
--- how a test of a byte came out
-pub tested : {d r : Bool} → r ≡ d → r ≡ true → d ≡ true
-tested e f = sym e ∙ f
-
-pub tested_not : {d r : Bool} → r ≡ d → r ≡ false → d ≡ false
-tested_not e f = sym e ∙ f
 
 -- ---- The digits that a text begins with
 
 pub run_all : (x rest : List ℕ) → All Digit x → digits_of (x ++ rest) ≡ x ++ digits_of rest
 unfolding digits_of
 run_all [] rest h = refl
-run_all (b ∷ x) rest h = rw (is_digit_lem b h.0) (ap (λ (l : List ℕ). b ∷ l) (run_all x rest h.1))
+run_all (b ∷ x) rest h = rw (is_digit_lem b (All-head Digit b x h)) (ap (λ (l : List ℕ). b ∷ l) (run_all x rest (All-tail Digit b x h)))
 
 -- a number's text is all of its digits; and so it is where a byte that is none stands behind it
 pub run_num : (n : ℕ) → digits_of (num_text n) ≡ num_text n
@@ -100,13 +94,13 @@ module _ (t : List ℕ) (at : ℕ) where
     pub within : i ≤ length t
     pub text : digits_of (drop at t) ≡ num_text v ++ digits_of (drop i t)
 
-  pub none_beyond : length t ≤ at → FoundIs t at NoNumber
+  pub none_beyond : length t ≤ at → FoundIs t at None
   none_beyond h n lt e = omega (arith, ap length (sym (run_end t at h) ∙ e), length_pos n)
 
-  pub none_there : at < length t → NumberIs (get_or t at 0 ∷ []) Nothing → FoundIs t at NoNumber
+  pub none_there : at < length t → NumberIs (get_or t at 0 ∷ []) None → FoundIs t at None
   none_there h none n lt e = omega (arith, ap length (sym (run_stop t at h (nothing_digit _ none)) ∙ e), length_pos n)
 
-  pub begins : (v : ℕ) → at < length t → NumberIs (get_or t at 0 ∷ []) (Value v) → Begun v (at + 1)
+  pub begins : (v : ℕ) → at < length t → NumberIs (get_or t at 0 ∷ []) (Some v) → Begun v (at + 1)
   begins v h p = record {
     fits = p.0;
     place = ap (λ (l : List ℕ). at + length l) p.1;
@@ -119,69 +113,61 @@ module _ (t : List ℕ) (at : ℕ) where
     byte = get_or t i 0
 
     -- a digit more
-    longer : i < length t → is_digit (get_or t i 0) ≡ true → digits_of (drop at t) ≡ (num_text v ++ (get_or t i 0 ∷ [])) ++ digits_of (drop (i + 1) t)
-    longer h d =
-        b.text ∙ ap (λ (l : List ℕ). num_text v ++ l) (run_more t i h d)
+    longer : (d : ℕ) → i < length t → NumberIs (get_or t i 0 ∷ []) (Some d) → digits_of (drop at t) ≡ (num_text v ++ (digit d ∷ [])) ++ digits_of (drop (i + 1) t)
+    longer d h p =
+        let is : get_or t i 0 ≡ digit d = (one_inv _ d p.1).0 in
+        b.text ∙ ap (λ (l : List ℕ). num_text v ++ l) (run_more t i h (value_digit _ d p))
         ∙ sym (append_assoc (num_text v) (get_or t i 0 ∷ []) (digits_of (drop (i + 1) t)))
+        ∙ ap (λ (k : ℕ). (num_text v ++ (k ∷ [])) ++ digits_of (drop (i + 1) t)) is
 
-    pub goes_on : (w : ℕ) → i < length t → is_digit (get_or t i 0) ≡ true → NumberIs (num_text v ++ (get_or t i 0 ∷ [])) (Value w) → Begun w (i + 1)
-    goes_on w h d p = record {
-      fits = p.0;
-      place = omega (arith, b.place, ap length p.1, length-append (num_text v) (get_or t i 0 ∷ []));
+    pub goes_on : (d w : ℕ) → i < length t → NumberIs (get_or t i 0 ∷ []) (Some d) → NumberIs (num_text v ++ (digit d ∷ [])) (Some w) → Begun w (i + 1)
+    goes_on d w h p q = record {
+      fits = q.0;
+      place = omega (arith, b.place, ap length q.1, length-append (num_text v) (digit d ∷ []));
       within = omega arith;
-      text = longer h d ∙ ap (λ (l : List ℕ). l ++ digits_of (drop (i + 1) t)) p.1;
+      text = longer d h p ∙ ap (λ (l : List ℕ). l ++ digits_of (drop (i + 1) t)) q.1;
     }
 
-    pub goes_wrong : i < length t → is_digit (get_or t i 0) ≡ true → NumberIs (num_text v ++ (get_or t i 0 ∷ [])) Nothing → FoundIs t at NoNumber
-    goes_wrong h d none n lt e =
-        let x : List ℕ = num_text v ++ (get_or t i 0 ∷ []) in
+    pub goes_wrong : (d : ℕ) → i < length t → NumberIs (get_or t i 0 ∷ []) (Some d) → NumberIs (num_text v ++ (digit d ∷ [])) None → FoundIs t at None
+    goes_wrong d h p none n lt e =
+        let x : List ℕ = num_text v ++ (digit d ∷ []) in
         let more : List ℕ = digits_of (drop (i + 1) t) in
-        let is : num_text n ≡ x ++ more = sym e ∙ longer h d in
-        let some : 1 ≤ length x = omega (arith, length-append (num_text v) (get_or t i 0 ∷ [])) in
+        let is : num_text n ≡ x ++ more = sym e ∙ longer d h p in
+        let some : 1 ≤ length x = omega (arith, length-append (num_text v) (digit d ∷ [])) in
         let r = num_take n (length x) some (omega (arith, ap length is, length-append x more)) in
         none r.0 (omega (arith, r.1)) (sym (take-append_seam x more) ∙ ap (take (length x)) (sym is) ∙ r.2)
 
-    ended : digits_of (drop i t) ≡ [] → FoundIs t at (Here v i)
+    ended : digits_of (drop i t) ≡ [] → FoundIs t at (Some (v, i))
     ended e =
         let is : digits_of (drop at t) ≡ num_text v = b.text ∙ ap (λ (l : List ℕ). num_text v ++ l) e ∙ append-nil (num_text v) in
         ((b.fits, is), b.place ∙ ap (λ (l : List ℕ). at + length l) (sym is))
 
-    pub stops : i < length t → is_digit (get_or t i 0) ≡ false → FoundIs t at (Here v i)
-    stops h d = ended (run_stop t i h d)
+    pub stops : i < length t → NumberIs (get_or t i 0 ∷ []) None → FoundIs t at (Some (v, i))
+    stops h none = ended (run_stop t i h (nothing_digit _ none))
 
-    pub ends : length t ≤ i → FoundIs t at (Here v i)
+    pub ends : length t ≤ i → FoundIs t at (Some (v, i))
     ends h = ended (run_end t i h)
-
--- ---- Behind a first 0
-
-module _ (t : List ℕ) (at : ℕ) (there : at < length t) (zero-digit : get_or t at 0 ≡ 48) where
-  zero_begun : Begun t at 0 (at + 1)
-  zero_begun = begins t at 0 there (omega arith, ap (λ (b : ℕ). b ∷ []) zero-digit ∙ sym (num_small 0 (omega arith)))
-
-  pub zero_alone : (d : is_digit (get_or t (at + 1) 0) ≡ false) → at + 1 < length t → FoundIs t at (Here 0 (at + 1))
-  zero_alone d h = stops t at 0 (at + 1) zero_begun h d
-
-  pub zero_last : length t ≤ at + 1 → FoundIs t at (Here 0 (at + 1))
-  zero_last h = ends t at 0 (at + 1) zero_begun h
-
-  pub zero_more : is_digit (get_or t (at + 1) 0) ≡ true → at + 1 < length t → FoundIs t at NoNumber
-  zero_more d h = goes_wrong t at 0 (at + 1) zero_begun h d (λ n lt e. omega (arith, num_snoc 0 (get_or t (at + 1) 0) n e))
 
 -- ---- A word
 
-pub word_short : (d : List ℕ) (v end : ℕ) → FoundIs d 0 (Here v end) → end < length d → NumberIs d Nothing
-word_short d v end p h n lt e = omega (arith, p.1, ap length (ap digits_of e ∙ run_num n), ap length e)
+-- it is a number where they are all of it
+pub word_is : (d : List ℕ) (v end : ℕ) → FoundIs d 0 (Some (v, end)) → NumberIs d (then_some (eqb end (length d)) v)
+word_is d v end p = by (eqb end (length d)) refl
+  where
+    by : (whole : Bool) → eqb end (length d) ≡ whole → NumberIs d (then_some whole v)
+    by true e = (p.0.0, sym (run_whole d (omega (arith, p.1, eqb-true end (length d) e))) ∙ p.0.1)
+    by false e = λ n lt is.
+        let all : digits_of d ≡ d = ap digits_of is ∙ run_num n ∙ sym is in
+        let whole : eqb end (length d) ≡ true = eq-eqb end (length d) (omega (arith, p.1, ap length all)) in
+        cc
 
-pub word_whole : (d : List ℕ) (v end : ℕ) → FoundIs d 0 (Here v end) → length d ≤ end → NumberIs d (Value v)
-word_whole d v end p h = (p.0.0, sym (run_whole d (omega (arith, p.1))) ∙ p.0.1)
-
-pub word_none : (d : List ℕ) → FoundIs d 0 NoNumber → NumberIs d Nothing
+pub word_none : (d : List ℕ) → FoundIs d 0 None → NumberIs d None
 word_none d none n lt e = none n lt (ap digits_of e ∙ run_num n)
 
 -- ---- One way
 
-pub found_unique : (t : List ℕ) (at : ℕ) (a b : Found) → FoundIs t at a → FoundIs t at b → a ≡ b
-found_unique t at (Here m end) (Here n end') p q = λ i. Here (num_inj m n (sym p.0.1 ∙ q.0.1) i) ((p.1 ∙ sym q.1) i)
-found_unique t at (Here m end) NoNumber p q = absurd (q m p.0.0 p.0.1)
-found_unique t at NoNumber (Here n end') p q = absurd (p n q.0.0 q.0.1)
-found_unique t at NoNumber NoNumber p q = refl
+pub found_unique : (t : List ℕ) (at : ℕ) (a b : Option (ℕ × ℕ)) → FoundIs t at a → FoundIs t at b → a ≡ b
+found_unique t at (Some (m, end)) (Some (n, end')) p q = λ i. Some (num_inj m n (sym p.0.1 ∙ q.0.1) i, (p.1 ∙ sym q.1) i)
+found_unique t at (Some (m, end)) None p q = absurd (q m p.0.0 p.0.1)
+found_unique t at None (Some (n, end')) p q = absurd (p n q.0.0 q.0.1)
+found_unique t at None None p q = refl

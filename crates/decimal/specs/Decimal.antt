@@ -1,10 +1,6 @@
 -- The text of a number: its decimal digits as bytes, without leading zeros; and what a text is read as.
 -- Assumes nothing.
-use Rattle.std.specs.Prelude.{◌≡◌, Bool, ◌&&◌, cond, List, [], ◌∷◌, ◌++◌, ℕ, zero, suc, ◌+◌, ◌/◌, ◌%◌, ◌<◌, ◌^◌, ltb, leb, length, drop}
-use Rattle.decimal.specs.declared.Number.{Number}
-use Rattle.decimal.specs.declared.Number.TheVariants.{Value, Nothing}
-use Rattle.decimal.specs.declared.Found.{Found}
-use Rattle.decimal.specs.declared.Found.TheVariants.{Here, NoNumber}
+use Rattle.std.specs.Prelude.{◌≡◌, Bool, ◌&&◌, cond, List, [], ◌∷◌, ◌++◌, ℕ, zero, suc, ◌+◌, ◌/◌, ◌%◌, ◌<◌, ◌^◌, ltb, leb, length, drop, Option, Some, None}
 
 -- the byte of a digit: 0 is 48, and 9 is 57
 abbrev pub digit : ℕ → ℕ
@@ -20,9 +16,9 @@ unfoldable pub num_text : ℕ → List ℕ
 num_text n = digits n n
 
 -- what a text is read as: n, where n has 64 bits and it is the text of n; nothing, where it is the text of no such number
-abbrev pub NumberIs : List ℕ → Number → Type 0
-NumberIs d (Value n) = (n < 2 ^ 64) × (d ≡ num_text n)
-NumberIs d Nothing = (n : ℕ) → n < 2 ^ 64 → d ≡ num_text n → ⊥
+abbrev pub NumberIs : List ℕ → Option ℕ → Type 0
+NumberIs d (Some n) = (n < 2 ^ 64) × (d ≡ num_text n)
+NumberIs d None = (n : ℕ) → n < 2 ^ 64 → d ≡ num_text n → ⊥
 
 -- ---- At a place of a text
 
@@ -35,6 +31,6 @@ digits_of [] = []
 digits_of (b ∷ t) = cond (is_digit b) (b ∷ digits_of t) []
 
 -- what the digits at a place are read as, and the place behind them
-abbrev pub FoundIs : List ℕ → ℕ → Found → Type 0
-FoundIs t at (Here n end) = NumberIs (digits_of (drop at t)) (Value n) × (end ≡ at + length (digits_of (drop at t)))
-FoundIs t at NoNumber = NumberIs (digits_of (drop at t)) Nothing
+abbrev pub FoundIs : List ℕ → ℕ → Option (ℕ × ℕ) → Type 0
+FoundIs t at (Some (n, end)) = NumberIs (digits_of (drop at t)) (Some n) × (end ≡ at + length (digits_of (drop at t)))
+FoundIs t at None = NumberIs (digits_of (drop at t)) None

@@ -1,131 +1,59 @@
 // Numbers in text: decimal, without leading zeros.
 #![tactic(auto)]
 
-ghost use Rattle.std.specs.Prelude.{◌≡◌, [], ◌∷◌, ◌++◌, ◌+◌, ◌≤◌, ◌<◌, length, get_or};
-ghost use Rattle.decimal.specs.Decimal.{num_text, is_digit, NumberIs, FoundIs};
-ghost use Rattle.decimal.specs.Laid.{laid, put_at, put_end};
-
-// The largest number of 64 bits, and a tenth of it: a number below that has room for any digit more.
-const MOST: u64 = 0xffff_ffff_ffff_ffff;
-
-const TENTH: u64 = MOST / 10;
-
-// The number of 64 bits that a word is, or that it is none.
-#[derive(Clone, Copy)]
-pub enum Number {
-    Value(u64),
-    Nothing,
-}
-
-// The number that the digits at a place are and the place behind them, or that they are none.
-#[derive(Clone, Copy)]
-pub enum Found {
-    Here { value: u64, end: usize },
-    NoNumber,
-}
+ghost use Rattle.std.specs.Prelude.{◌≡◌, [], ◌∷◌, ◌++◌, ◌≤◌, ◌<◌, length};
+ghost use Rattle.decimal.specs.Decimal.{digit, num_text, NumberIs, FoundIs};
+ghost use Rattle.decimal.specs.Laid.{put_at, put_end};
 
 // Reads a word as a number: the one whose text it is.
-pub fn read_number(word: &[u8]) -> Number
+pub fn read_number(word: &[u8]) -> Option<u64>
     ensures { NumberIs word.now result }
 {
-    let Found::Here { value, end } = number_at(word, 0) else {
-        return Number::Nothing;
-    };
-    if end < word.len() {
-        return Number::Nothing;
-    }
-    Number::Value(value)
+    let (value, end) = number_at(word, 0)?;
+    (end == word.len()).then_some(value)
 }
 
-// Reads the digits that stand at a place, up to the first byte that is none, as a number.
-pub fn number_at(text: &[u8], at: usize) -> Found
+// Reads the digits that stand at a place, up to the first byte that is none, as a number, and gives the place behind them too.
+pub fn number_at(text: &[u8], at: usize) -> Option<(u64, usize)>
     ensures { FoundIs text.now at result }
 {
-    if text.len() <= at {
-        return Found::NoNumber;
-    }
-    let Number::Value(first) = one_digit(text[at]) else {
-        return Found::NoNumber;
-    };
-    if first == 0 {
-        return zero_at(text, at);
-    }
-    let mut v = first;
-    let mut i = at + 1;
-    while i < text.len() {
-        if !is_digit(text[i]) {
-            return Found::Here { value: v, end: i };
-        }
-        let Number::Value(next) = one_more(v, text[i]) else {
-            return Found::NoNumber;
+    let mut v = one_digit(*text.get(at)?)?;
+    for i in at + 1..text.len() {
+        let Some(d) = one_digit(text[i]) else {
+            return Some((v, i));
         };
-        v = next;
-        i += 1;
+        v = one_more(v, d)?;
     }
-    Found::Here { value: v, end: i }
-}
-
-// The same where the first digit is 0, behind which no other may stand.
-fn zero_at(text: &[u8], at: usize) -> Found
-    requires { (at < length text.now) × (get_or text.now at 0 ≡ 48) }
-    ensures { FoundIs text.now at result }
-{
-    let end = at + 1;
-    if end < text.len() {
-        if is_digit(text[end]) {
-            return Found::NoNumber;
-        }
-    }
-    Found::Here { value: 0, end }
-}
-
-fn is_digit(b: u8) -> bool
-    ensures { result ≡ is_digit b }
-{
-    (b'0' <= b) & (b <= b'9')
+    Some((v, text.len()))
 }
 
 // The number whose text is the byte b.
-fn one_digit(b: u8) -> Number
+fn one_digit(b: u8) -> Option<u64>
     ensures { NumberIs (b ∷ []) result }
 {
-    if b < b'0' {
-        return Number::Nothing;
+    if b.is_ascii_digit() {
+        Some(u64::from(b - b'0'))
+    } else {
+        None
     }
-    if b'9' < b {
-        return Number::Nothing;
-    }
-    Number::Value((b - b'0') as u64)
 }
 
-// The number whose text is v's with the byte b behind it; v is not 0.
-fn one_more(v: u64, b: u8) -> Number
-    requires { 1 ≤ v }
-    ensures { NumberIs (num_text v ++ (b ∷ [])) result }
+// The number whose text is v's and the digit d behind it; behind a lone 0 no digit may stand.
+fn one_more(v: u64, d: u64) -> Option<u64>
+    requires { d < 10 }
+    ensures { NumberIs (num_text v ++ (digit d ∷ [])) result }
 {
-    let Number::Value(d) = one_digit(b) else {
-        return Number::Nothing;
-    };
-    if v < TENTH {
-        return Number::Value(v * 10 + d);
+    if v == 0 {
+        return None;
     }
-    if (MOST - d) / 10 < v {
-        return Number::Nothing;
-    }
-    Number::Value(v * 10 + d)
+    v.checked_mul(10)?.checked_add(d)
 }
 
 // How long the text of a number is.
 pub fn number_length(n: u64) -> usize
     ensures { (result ≡ length (num_text n)) × (result ≤ 20) }
 {
-    let mut v = n;
-    let mut digits: usize = 1;
-    while 10 <= v {
-        v /= 10;
-        digits += 1;
-    }
-    digits
+    n.checked_ilog10().unwrap_or(0) as usize + 1
 }
 
 // Writes the text of a number at a place, and gives the place behind it; where there is no room for it, nothing is changed, and the place is given back.
@@ -134,28 +62,22 @@ pub fn put_number(n: u64, out: &mut [u8], at: usize) -> usize
     ensures text { out.new ≡ put_at (num_text n) at out.old }
 {
     let digits = number_length(n);
-    if out.len() <= at {
-        return at;
-    }
-    if out.len() - at < digits {
+    if out.len() <= at || out.len() - at < digits {
         return at;
     }
     let end = at + digits;
-    lay_digits(n, out, at, end);
+    lay_digits(n, &mut out[at..end]);
     end
 }
 
-// Writes the digits of a number from the last to the first, between two places.
-fn lay_digits(n: u64, out: &mut [u8], at: usize, end: usize)
-    requires { (end ≡ at + length (num_text n)) × (end ≤ length out.old) }
-    ensures { out.new ≡ laid out.old at (num_text n) }
+// Writes the digits of a number from the last to the first, over bytes that are as many.
+fn lay_digits(n: u64, out: &mut [u8])
+    requires { length out.old ≡ length (num_text n) }
+    ensures { out.new ≡ num_text n }
 {
     let mut v = n;
-    let mut i = end - 1;
-    while 10 <= v {
+    for i in (0..out.len()).rev() {
         out[i] = b'0' + (v % 10) as u8;
         v /= 10;
-        i -= 1;
     }
-    out[i] = b'0' + v as u8;
 }

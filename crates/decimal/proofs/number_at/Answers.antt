@@ -1,52 +1,34 @@
--- `decimal::number_at`: before the turn i the digits are v's text and those from i on, and v is not 0.
+-- `decimal::number_at`: before the turn i the digits are v's text and those from i on.
 use native.Mathlib.Omega.{arith}
-use Rattle.decimal.proofs.Digits.{num_snoc}
 use Rattle.decimal.proofs.Reading.{one_inv}
-use Rattle.decimal.proofs.Runs.{none_beyond, none_there, begins, goes_on, goes_wrong, stops, ends, tested_not, tested}
+use Rattle.decimal.proofs.Runs.{none_beyond, none_there, begins, goes_on, goes_wrong, stops, ends}
 use Rattle.decimal.proofs.number_at.Goals as goal
 
-pub returns-then-text-at : goal.returns-then-text-at
-returns-then-text-at c = none_beyond _ _ c.if-text-at.true
+pub returns-in_err-get : goal.returns-in_err-get
+returns-in_err-get c = rw c.from_residual.ensures (none_beyond _ _ c.in_err-get.ensures.lookup.3)
 
-pub returns-in_default : goal.returns-in_default
-returns-in_default c =
-    let x = c.args in
-    none_there x.text.now x.at c.if-text-at.false (rw c.in_default.is at c.one_digit.ensures)
-
-pub zero_at-requires : goal.zero_at-requires
-zero_at-requires c =
-    let one = rw c.in-Value.is at c.one_digit.ensures in
-    (c.if-text-at.false, omega (arith, (one_inv _ _ one.1).0))
+pub returns-in_err-v : goal.returns-in_err-v
+returns-in_err-v c =
+    let there = c.in_ok-get.ensures.lookup.3 in
+    rw c.from_residual-in_err-v.ensures (none_there _ _ there.0 (rw (there.1 0) at c.in_err-v.ensures))
 
 pub loop-i-init : goal.loop-i-init
 loop-i-init c =
-    let x = c.args in
-    (begins x.text.now x.at _ c.if-text-at.false (rw c.in-Value.is at c.one_digit.ensures), omega arith)
+    let there = c.in_ok-get.ensures.lookup.3 in
+    begins _ _ _ there.0 (rw (there.1 0) at c.in_ok-v.ensures)
 
-pub returns-then-not-is_digit : goal.returns-then-not-is_digit
-returns-then-not-is_digit c =
-    let l = c.loop-i in
-    stops _ _ l.v l.i l.invariant.0 c.loop-i-test.true (tested_not c.is_digit.ensures c.if-not-is_digit.true)
+pub returns-in_default : goal.returns-in_default
+returns-in_default c = stops _ _ _ c.loop-i.i c.loop-i.invariant c.loop-i-test.true c.in_default.ensures
 
 pub one_more-requires : goal.one_more-requires
-one_more-requires c = c.loop-i.invariant.1
+one_more-requires c = (one_inv _ _ c.in-Some.ensures.1).1
 
-pub returns-in_default-one_more : goal.returns-in_default-one_more
-returns-in_default-one_more c =
-    let l = c.loop-i in
-    goes_wrong _ _ l.v l.i l.invariant.0 c.loop-i-test.true (tested c.is_digit.ensures c.if-not-is_digit.false)
-    (rw c.in_default-one_more.is at c.one_more.ensures)
-
-pub loop-i-smaller : goal.loop-i-smaller
-loop-i-smaller c = omega (arith, c.loop-i-test.true)
+pub returns-in_err-v-2 : goal.returns-in_err-v-2
+returns-in_err-v-2 c =
+    rw c.from_residual-in_err-v-2.ensures (goes_wrong _ _ _ c.loop-i.i c.loop-i.invariant _ c.loop-i-test.true c.in-Some.ensures c.in_err-v-2.ensures)
 
 pub loop-i-preserved : goal.loop-i-preserved
-loop-i-preserved c =
-    let l = c.loop-i in
-    let more = rw c.in-Value-one_more.is at c.one_more.ensures in (
-      goes_on _ _ l.v l.i l.invariant.0 _ c.loop-i-test.true (tested c.is_digit.ensures c.if-not-is_digit.false) more,
-      omega (arith, (num_snoc _ _ _ more.1).2),
-    )
+loop-i-preserved c = goes_on _ _ _ c.loop-i.i c.loop-i.invariant _ _ c.loop-i-test.true c.in-Some.ensures c.in_ok-v-2.ensures
 
 pub returns : goal.returns
-returns c = let l = c.loop-i in ends _ _ l.v l.i l.invariant.0 c.loop-i-test.false
+returns c = let e = ends _ _ _ c.loop-i.i c.loop-i.invariant c.loop-i-test.false in (e.0, omega (arith, e.1))

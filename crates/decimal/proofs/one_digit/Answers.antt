@@ -1,13 +1,14 @@
 -- `decimal::one_digit`: the bytes from 48 to 57 are digits, and no others.
+use mathlib.Core.Path.{sym, ap, ◌∙◌}
 use native.Mathlib.Omega.{arith}
+use Rattle.decimal.specs.Decimal.{num_text}
 use Rattle.decimal.proofs.Reading.{one_inv, one_is}
 use Rattle.decimal.proofs.one_digit.Goals as goal
 
-pub returns-then-b-lt48 : goal.returns-then-b-lt48
-returns-then-b-lt48 c = λ n lt e. omega (arith, one_inv _ n e)
+pub returns-then-is_ascii_digit : goal.returns-then-is_ascii_digit
+returns-then-is_ascii_digit c =
+    let within = c.if-is_ascii_digit.ensures.cases in
+    (omega arith, one_is _ (omega arith) (omega arith) ∙ ap num_text (sym c.from.ensures))
 
-pub returns-then-b-gt57 : goal.returns-then-b-gt57
-returns-then-b-gt57 c = λ n lt e. omega (arith, one_inv _ n e)
-
-pub returns : goal.returns
-returns c = (omega arith, one_is _ c.if-b-lt48.false c.if-b-gt57.false)
+pub returns-else-is_ascii_digit : goal.returns-else-is_ascii_digit
+returns-else-is_ascii_digit c = λ n lt e. let other = c.if-is_ascii_digit.ensures.cases in omega (arith, one_inv _ n e)
