@@ -4,38 +4,49 @@ use mathlib.Core.Path.{◌≡◌, refl, sym, ap, ap₂, ◌∙◌}
 use mathlib.Core.Bool.{Bool, true, false, cond}
 use mathlib.Core.Logic.{⊎_elim}
 use mathlib.Core.List.{List, [], ◌∷◌}
-use Prim.Native.Nat.{ℕ, suc, ◌+◌, ◌-◌, ◌<◌, ◌≤◌}
+use Prim.Native.Nat.{ℕ, ◌+◌, ◌-◌, ◌<◌, ◌≤◌, min}
 use native.Mathlib.Omega.{arith}
 use native.Mathlib.Decide.{dec_lt}
 use native.Mathlib.Nat.{le_refl, eq-or-lt_of_le}
-use native.Mathlib.Numerals.{add-one}
-use borrow.Author.Tests.{lt-ltb, le-ltb}
-use lib.ListN.{length, get_or, take, drop, drop_of_length-le}
-use lib.Seq.{drop-cons, drop-drop}
+use borrow.Author.Tests.{lt-ltb, le-ltb, ltb-false}
+use lib.Dec.{ltb}
+use lib.ListN.{length, length-drop, take, drop, drop_of_length-le}
+use lib.Seq.{take_all, drop-drop}
+use Rattle.std.specs.Prelude.{Some, None, not, position}
+use Rattle.std.specs.List.{position_or_len}
+use Rattle.std.proofs.lemmas.Bool.{cases_lt}
+use Rattle.std.proofs.lemmas.List.Recursion.{is_position_or_len}
+use Rattle.std.proofs.lemmas.List.Sums.{prefix_len-le-length}
+use Rattle.std.proofs.lemmas.List.Quantifiers.{position-Some}
 use Rattle.fields.specs.declared.Field.{Field}
 use Rattle.fields.specs.Fields.{ends, field_of, within, field_end, field_at}
 
--- ---- The field at a place, from the byte there
+-- ---- How long a field is
 
-stop_cons : (b : ℕ) (t : List ℕ) → ends b ≡ true → field_of (b ∷ t) ≡ []
+-- as many bytes as stand before the first that ends it
+field_long : (t : List ℕ) → length (field_of t) ≡ position_or_len ends t
 unfolding field_of
-stop_cons b t e = ap (λ (s : Bool). cond s [] (b ∷ field_of t)) e
+field_long = is_position_or_len (λ t. length (field_of t)) ends refl (λ b t. by (ends b) b (field_of t))
+  where
+    by : (c : Bool) (b : ℕ) (f : List ℕ) → length (cond c [] (b ∷ f)) ≡ cond c 0 (1 + length f)
+    by true b f = refl
+    by false b f = omega arith
 
-more_cons : (b : ℕ) (t : List ℕ) → ends b ≡ false → field_of (b ∷ t) ≡ b ∷ field_of t
-unfolding field_of
-more_cons b t e = ap (λ (s : Bool). cond s [] (b ∷ field_of t)) e
+place_of : (c : Bool) (k n : ℕ) → Some n ≡ cond c (Some k) None → k ≡ n
+place_of true k n e = cc
+place_of false k n e = cc
 
-pub field_end_lem : (t : List ℕ) (at : ℕ) → length t ≤ at → field_of (drop at t) ≡ []
-unfolding field_of
-field_end_lem t at h = ap field_of (drop_of_length-le t {i = at} h)
+no_place : (c : Bool) (k : ℕ) → None ≡ cond c (Some k) None → c ≡ false
+no_place true k e = cc
+no_place false k e = refl
 
-pub field_stop : (t : List ℕ) (at : ℕ) → at < length t → ends (get_or t at 0) ≡ true → field_of (drop at t) ≡ []
-field_stop t at h e = ap field_of (drop-cons t at 0 h) ∙ stop_cons (get_or t at 0) (drop (suc at) t) e
+ended : (t : List ℕ) (n : ℕ) → Some n ≡ position ends t → (length (field_of t) ≡ n) × (n < length t)
+ended t n e = (field_long t ∙ place_of (ltb (position_or_len ends t) (length t)) (position_or_len ends t) n e, (position-Some ends t n 0 (sym e)).0)
 
-pub field_more : (t : List ℕ) (at : ℕ) → at < length t → ends (get_or t at 0) ≡ false → field_of (drop at t) ≡ get_or t at 0 ∷ field_of (drop (at + 1) t)
-field_more t at h e =
-    ap field_of (drop-cons t at 0 h) ∙ more_cons (get_or t at 0) (drop (suc at) t) e
-    ∙ ap (λ (k : ℕ). get_or t at 0 ∷ field_of (drop k t)) (sym (add-one at))
+unended : (t : List ℕ) → None ≡ position ends t → length (field_of t) ≡ length t
+unended t e =
+    let all : length t ≤ position_or_len ends t = ltb-false _ _ (no_place (ltb (position_or_len ends t) (length t)) (position_or_len ends t) e) in
+    omega (arith, field_long t, prefix_len-le-length (λ b. not (ends b)) t)
 
 -- ---- Places within a text
 
@@ -48,6 +59,9 @@ within_ge t at h = rw (le-ltb at (length t) h)
 pub within_le : (t : List ℕ) (n : ℕ) → n ≤ length t → within t n ≡ n
 within_le t n h = ⊎_elim (λ e. within_ge t n (omega arith) ∙ sym e) (λ l. within_lt t n l) (eq-or-lt_of_le h)
 
+pub within_min : (t : List ℕ) (at : ℕ) → min at (length t) ≡ within t at
+within_min t at = ⊎_elim (λ (l : at < length t). omega (arith, within_lt t at l)) (λ (g : length t ≤ at). omega (arith, within_ge t at g)) (cases_lt at (length t))
+
 drop_within : (t : List ℕ) (at : ℕ) → drop (within t at) t ≡ drop at t
 drop_within t at = of (dec_lt at (length t))
   where
@@ -59,10 +73,31 @@ drop_within t at = of (dec_lt at (length t))
 
 -- ---- The field that the code puts together
 
-pub field_is : (t : List ℕ) (at from to next : ℕ) → from ≡ within t at → to ≡ field_end t at → next ≡ within t (to + 1)
-    → ◌≡◌ {A = Field} (record { from = from; to = to; next = next }) (field_at t at)
-unfolding field_at
-field_is t at from to next f e n = λ i. record { from = f i; to = e i; next = (n ∙ ap (λ (k : ℕ). within t (k + 1)) e) i }
+module _ (t : List ℕ) (at from : ℕ) (place : from ≡ within t at) where
+  -- what the code looks through, as it cuts it out
+  left : take (length t - from) (drop from t) ≡ drop at t
+  left = take_all (length t - from) (drop from t) (omega (arith, length-drop from t)) ∙ ap (λ (k : ℕ). drop k t) place ∙ drop_within t at
+
+  -- how much that is
+  long : length (drop at t) ≡ length t - within t at
+  long = ap length (sym (drop_within t at)) ∙ length-drop (within t at) t
+
+  pub field_ended : (n : ℕ) → Some n ≡ position ends (take (length t - from) (drop from t)) → ◌≡◌ {A = Field} (record { from = from; to = from + n; next = from + n + 1 }) (field_at t at)
+  unfolding field_at
+  field_ended n e =
+      let p = ended (drop at t) n (e ∙ ap (position ends) left) in
+      let to : from + n ≡ field_end t at = omega (arith, p.0, place) in
+      let next : from + n + 1 ≡ within t (field_end t at + 1) =
+      ap (λ (k : ℕ). k + 1) to ∙ sym (within_le t (field_end t at + 1) (omega (arith, to, place, p.1, long))) in
+      λ i. record { from = place i; to = to i; next = next i }
+
+  pub field_unended : None ≡ position ends (take (length t - from) (drop from t)) → ◌≡◌ {A = Field} (record { from = from; to = length t; next = length t }) (field_at t at)
+  unfolding field_at
+  field_unended e =
+      let p = unended (drop at t) (e ∙ ap (position ends) left) in
+      let to : length t ≡ field_end t at = omega (arith, p, long, within_min t at) in
+      let next : length t ≡ within t (field_end t at + 1) = sym (within_ge t (field_end t at + 1) (omega (arith, to))) in
+      λ i. record { from = place i; to = to i; next = next i }
 
 -- ---- The bytes that a field names
 
