@@ -1,4 +1,4 @@
--- A text laid over bytes: byte by byte from its end, one text behind another, and one as long as the bytes.
+-- A text laid over bytes: one text behind another, one as long as the bytes, and a number's digits from the last to the first.
 -- Assumes nothing.
 use mathlib.Core.Path.{◌≡◌, sym, ap, ap₂, ◌∙◌}
 use mathlib.Core.List.{List, [], ◌∷◌, ◌++◌, append_assoc, append-nil}

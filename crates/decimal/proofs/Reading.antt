@@ -7,6 +7,7 @@ use Prim.Native.Nat.{ℕ, ◌+◌, ◌-◌, ◌*◌, ◌/◌, ◌%◌, ◌<◌, 
 use native.Mathlib.Omega.{arith}
 use lib.ListN.{length}
 use Rattle.std.specs.Prelude.{Option, Some, None}
+use Rattle.std.specs.Char.{IsAsciiDigit, IsNotAsciiDigit}
 use Rattle.std.specs.Option.{SomeIff}
 use Rattle.std.proofs.lemmas.Bool.{cases_lt}
 use Rattle.decimal.specs.Decimal.{digit, num_text, NumberIs}
@@ -22,6 +23,13 @@ pub one_is : (b : ℕ) → 48 ≤ b → b ≤ 57 → b ∷ [] ≡ num_text (b - 
 one_is b lo hi =
     let e : b ≡ digit (b - 48) = omega arith in
     ap (λ (k : ℕ). k ∷ []) e ∙ sym (num_small (b - 48) (omega arith))
+
+-- a byte that is a digit by the library's test of it, and one that is not
+pub digit_byte : (b d : ℕ) → IsAsciiDigit b → d ≡ b - 48 → NumberIs (b ∷ []) (Some d)
+digit_byte b d h e = (omega arith, one_is b (omega arith) (omega arith) ∙ ap num_text (sym e))
+
+pub other_byte : (b : ℕ) → IsNotAsciiDigit b → NumberIs (b ∷ []) None
+other_byte b h n lt e = omega (arith, one_inv b n e)
 
 -- v's text and a digit more: that of v * 10 + d, and of no number where v is 0
 pub more_is : (v d : ℕ) → 1 ≤ v → d < 10 → num_text v ++ (digit d ∷ []) ≡ num_text (v * 10 + d)

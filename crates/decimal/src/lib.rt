@@ -19,10 +19,10 @@ pub fn number_at(text: &[u8], at: usize) -> Option<(u64, usize)>
 {
     let mut v = one_digit(*text.get(at)?)?;
     for i in at + 1..text.len() {
-        let Some(d) = one_digit(text[i]) else {
+        if !text[i].is_ascii_digit() {
             return Some((v, i));
-        };
-        v = one_more(v, d)?;
+        }
+        v = one_more(v, u64::from(text[i] - b'0'))?;
     }
     Some((v, text.len()))
 }

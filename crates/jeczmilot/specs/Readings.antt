@@ -1,16 +1,14 @@
 -- What a list is read as, in the numbers of a C caller.
 -- Assumes nothing.
-use Rattle.std.specs.Prelude.{◌≡◌, ◌↔◌, List, ℕ}
+use Rattle.std.specs.Prelude.{◌≡◌, ◌↔◌, List, ℕ, Ok, Err}
 use Rattle.lists.specs.Written.{CanWrite}
-use Rattle.lists.specs.Readings.{ReadAs}
-use Rattle.lists.specs.declared.Reading.{Reading}
-use Rattle.lists.specs.declared.Reading.TheVariants.{Taken, Refused}
+use Rattle.lists.specs.Readings.{Reading, ReadAs}
 use Rattle.jeczmilot.specs.declared.ListNumbers.{ListNumbers}
 
 -- no bad line and what the list says, or the bad line and zeros
 abbrev pub numbers_of : Reading → ListNumbers
-numbers_of (Taken job revision segments n) = record { bad = 0; job = job; revision = revision; segments = segments; length = n }
-numbers_of (Refused line) = record { bad = line; job = 0; revision = 0; segments = 0; length = 0 }
+numbers_of (Ok says) = record { bad = 0; job = says.job; revision = says.revision; segments = says.segments; length = says.body }
+numbers_of (Err bad) = record { bad = bad.line; job = 0; revision = 0; segments = 0; length = 0 }
 
 -- the numbers of what the text is read as
 abbrev pub ReadAsNumbers : List ℕ → ListNumbers → Type 0

@@ -12,7 +12,6 @@ ghost use Rattle.jeczmilot.specs.Readings.{ReadAsNumbers};
 
 use answers::{Outcome, number};
 use cutting::Waiting;
-use lists::Reading;
 use places::terms::{Edition, Terms};
 
 // The number of an answer, and how many times P ran.
@@ -177,20 +176,15 @@ pub fn norx_list_read(text: &[u8]) -> ListNumbers
     ensures { ReadAsNumbers text.now result }
 {
     match lists::read_list(text) {
-        Reading::Taken {
-            job,
-            revision,
-            segments,
-            body,
-        } => ListNumbers {
+        Ok(says) => ListNumbers {
             bad: 0,
-            job,
-            revision,
-            segments,
-            length: body,
+            job: says.job,
+            revision: says.revision,
+            segments: says.segments,
+            length: says.body,
         },
-        Reading::Refused(line) => ListNumbers {
-            bad: line,
+        Err(bad) => ListNumbers {
+            bad: bad.line,
             job: 0,
             revision: 0,
             segments: 0,

@@ -8,15 +8,15 @@ use Prim.Native.Nat.{ℕ, ◌<◌, ◌≤◌}
 use native.Mathlib.Nat.{eq-or-lt_of_le}
 use native.Mathlib.Omega.{arith}
 use lib.ListN.{length, length-append}
+use Rattle.std.specs.Prelude.{Ok, Err}
+use Rattle.std.proofs.lemmas.Bool.{cases_lt}
 use Rattle.answers.specs.declared.Answer.TheVariants.{Done}
 use Rattle.answers.specs.Answers.{done_of}
 use Rattle.cutting.specs.Cutting.{count_of}
-use Rattle.decimal.proofs.Digits.{lt_or_ge}
 use Rattle.lists.specs.Lists.{line_text, list_text, IsList}
 use Rattle.lists.specs.Lines.{FirstBad}
 use Rattle.lists.specs.Written.{write_answer, CanWrite}
 use Rattle.lists.specs.Promises.{TakesExactly, ReadsBack, ReadsOneWay, RefusesEmpty}
-use Rattle.lists.specs.declared.Reading.TheVariants.{Taken, Refused}
 use Rattle.lists.proofs.Listing.{list_once}
 use Rattle.lists.proofs.Bad.{bad_no_list, bad_first}
 use Rattle.lists.proofs.Lines.{line_some}
@@ -29,14 +29,17 @@ bad_once : (t : List ℕ) (m n : ℕ) → FirstBad t m → FirstBad t n → m < 
 bad_once t m n a b h = a.bad (b.good m a.from h)
 
 pub read_once : ReadsOneWay
-read_once t (Taken j r k n) (Taken j' r' k' n') p q =
-    let s = list_once j r n j' r' n' (sym p.0.text ∙ q.0.text) in
-    λ i. Taken (s.0 i) (s.1 i) ((p.1 ∙ ap count_of s.2 ∙ sym q.1) i) (s.2 i)
-read_once t (Taken j r k n) (Refused m) p q = absurd (bad_no_list t m q (j, r, n, p.0))
-read_once t (Refused m) (Taken j r k n) p q = absurd (bad_no_list t m p (j, r, n, q.0))
-read_once t (Refused m) (Refused n) p q =
-    ⊎_elim (λ (h : m < n). absurd (bad_once t m n p q h))
-    (λ (g : n ≤ m). ⊎_elim (λ (e : n ≡ m). ap Refused (sym e)) (λ (l : n < m). absurd (bad_once t n m q p l)) (eq-or-lt_of_le g)) (lt_or_ge m n)
+read_once t (Ok a) (Ok b) p q =
+    let s = list_once a.job a.revision a.body b.job b.revision b.body (sym p.0.text ∙ q.0.text) in
+    λ i. Ok (record { job = s.0 i; revision = s.1 i; segments = (p.1 ∙ ap count_of s.2 ∙ sym q.1) i; body = s.2 i })
+read_once t (Ok a) (Err b) p q = absurd (bad_no_list t b.line q (a.job, a.revision, a.body, p.0))
+read_once t (Err a) (Ok b) p q = absurd (bad_no_list t a.line p (b.job, b.revision, b.body, q.0))
+read_once t (Err a) (Err b) p q = λ i. Err (record { line = once i })
+  where
+    once : a.line ≡ b.line
+    once =
+        ⊎_elim (λ (h : a.line < b.line). absurd (bad_once t a.line b.line p q h))
+        (λ (g : b.line ≤ a.line). ⊎_elim (λ (e : b.line ≡ a.line). sym e) (λ (l : b.line < a.line). absurd (bad_once t b.line a.line q p l)) (eq-or-lt_of_le g)) (cases_lt a.line b.line)
 
 -- ---- What the writer can write
 
@@ -72,16 +75,16 @@ written_list t c =
 -- ---- Exactly these are taken
 
 pub takes_exactly : TakesExactly
-takes_exactly t (Taken j r k n) p = ((λ u. list_written t (j, r, n, p.0)), (λ c. tt))
-takes_exactly t (Refused m) p = ((λ u. absurd u), (λ c. bad_no_list t m p (written_list t c)))
+takes_exactly t (Ok says) p = ((λ u. list_written t (says.job, says.revision, says.body, p.0)), (λ c. tt))
+takes_exactly t (Err bad) p = ((λ u. absurd u), (λ c. bad_no_list t bad.line p (written_list t c)))
 
 -- and what is written is read back
 pub reads_back : ReadsBack
-reads_back j r n a hj hr hn p = read_once (list_text j r n) a (Taken j r (count_of n) n) p (record { job_fits = hj; revision_fits = hr; within = hn; text = refl }, refl)
+reads_back j r n a hj hr hn p = read_once (list_text j r n) a (Ok (record { job = j; revision = r; segments = count_of n; body = n })) p (record { job_fits = hj; revision_fits = hr; within = hn; text = refl }, refl)
 
 -- ---- No text at all
 
 pub empty_refused : RefusesEmpty
 empty_refused a p =
-    read_once [] a (Refused 1) p
+    read_once [] a (Err (record { line = 1 })) p
     (bad_first [] (λ j r l more hj hr hl e. omega (arith, ap length e, length-append (line_text j r 0 l) more, line_some (line_text j r 0 l) (line_lined j r 0 l))))

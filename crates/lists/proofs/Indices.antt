@@ -3,33 +3,18 @@
 use mathlib.Core.Path.{◌≡◌, refl, ap₂, ◌∙◌}
 use mathlib.Core.Bool.{cond}
 use mathlib.Core.Logic.{⊎_elim}
-use Prim.Native.Nat.{ℕ, zero, suc, ◌+◌, ◌-◌, ◌*◌, ◌/◌, ◌<◌, ◌≤◌, ◌^◌}
+use Prim.Native.Nat.{ℕ, zero, suc, ◌+◌, ◌-◌, ◌*◌, ◌<◌, ◌≤◌, ◌^◌}
 use native.Mathlib.Omega.{arith}
-use native.Mathlib.Nat.{pow-suc, lt_of_lt_of_le}
+use native.Mathlib.Nat.{lt_of_lt_of_le}
 use borrow.Author.Tests.{le-leb, lt-leb}
 use lib.Dec.{leb, lit≤}
 use lib.ListN.{length}
+use Rattle.std.proofs.lemmas.Bool.{cases_lt}
 use Rattle.rules.specs.Rules.{most_segments}
 use Rattle.answers.proofs.Tests.{cond_true, cond_false}
 use Rattle.decimal.specs.Decimal.{num_text}
-use Rattle.decimal.proofs.Digits.{lt_or_ge, length_more, length_pos, length_below}
+use Rattle.decimal.proofs.Digits.{length_pos, length_below, length_from_power}
 use Rattle.lists.specs.Pieces.{index_digits}
-
--- a number from 10 to the k on has more than k digits
-pub length_from_power : (k n : ℕ) → 10 ^ k ≤ n → suc k ≤ length (num_text n)
-length_from_power zero n h = length_pos n
-length_from_power (suc k) n h =
-    let e : 10 ^ suc k ≡ 10 ^ k * 10 = pow-suc 10 k in
-    let q : 10 ^ k ≤ n / 10 = omega (arith, e) in
-    let some : 10 ≤ n = ten in
-    omega (arith, length_more n some, length_from_power k (n / 10) q)
-  where
-    ten : 10 ≤ n
-    ten = ⊎_elim (λ (l : n < 10). absurd (omega (arith, pow-suc 10 k, power_some k))) (λ (g : 10 ≤ n). g) (lt_or_ge n 10)
-      where
-        power_some : (k : ℕ) → 1 ≤ 10 ^ k
-        power_some zero = omega arith
-        power_some (suc k) = omega (arith, pow-suc 10 k, power_some k)
 
 -- the digits of n, at most k of them
 unfoldable pub capped : ℕ → ℕ → ℕ
@@ -54,7 +39,7 @@ unfolding counted
 counted_one zero = refl
 counted_one (suc n) =
     let one : capped 1 n ≡ 1 =
-    ⊎_elim (λ (l : 1 < length (num_text n)). capped_many 1 n l) (λ (g : length (num_text n) ≤ 1). capped_few 1 n g ∙ omega (arith, length_pos n)) (lt_or_ge 1 (length (num_text n))) in
+    ⊎_elim (λ (l : 1 < length (num_text n)). capped_many 1 n l) (λ (g : length (num_text n) ≤ 1). capped_few 1 n g ∙ omega (arith, length_pos n)) (cases_lt 1 (length (num_text n))) in
     omega (arith, counted_one n)
 
 -- one more of those from 10 to the k + 1 on
@@ -69,8 +54,8 @@ counted_more k (suc n) =
     (λ (g : 10 ^ suc k ≤ n).
     let many = length_from_power (suc k) n g in
     let more : capped (suc (suc k)) n ≡ suc (suc k) =
-    ⊎_elim (λ (l : suc (suc k) < length (num_text n)). capped_many (suc (suc k)) n l) (λ (h : length (num_text n) ≤ suc (suc k)). capped_few (suc (suc k)) n h ∙ omega arith) (lt_or_ge (suc (suc k)) (length (num_text n))) in
-    omega (arith, counted_more k n, capped_many (suc k) n many)) (lt_or_ge n (10 ^ suc k))
+    ⊎_elim (λ (l : suc (suc k) < length (num_text n)). capped_many (suc (suc k)) n l) (λ (h : length (num_text n) ≤ suc (suc k)). capped_few (suc (suc k)) n h ∙ omega arith) (cases_lt (suc (suc k)) (length (num_text n))) in
+    omega (arith, counted_more k n, capped_many (suc k) n many)) (cases_lt n (10 ^ suc k))
 
 -- and all of them where no number below n has more
 pub counted_all : (k n : ℕ) → n ≤ 10 ^ suc k → counted (suc k) n ≡ index_digits n
@@ -86,5 +71,5 @@ counted_most k (suc n) h =
     let small : n < most_segments = omega arith in
     let twenty : length (num_text n) ≤ 20 = length_below 19 n (lt_of_lt_of_le small (lit≤ tt)) in
     let most : capped k n ≤ 20 =
-    ⊎_elim (λ (l : k < length (num_text n)). omega (arith, capped_many k n l)) (λ (g : length (num_text n) ≤ k). omega (arith, capped_few k n g)) (lt_or_ge k (length (num_text n))) in
+    ⊎_elim (λ (l : k < length (num_text n)). omega (arith, capped_many k n l)) (λ (g : length (num_text n) ≤ k). omega (arith, capped_few k n g)) (cases_lt k (length (num_text n))) in
     omega (arith, counted_most k n (omega arith))

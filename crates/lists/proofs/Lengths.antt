@@ -5,10 +5,10 @@ use mathlib.Core.Logic.{⊎_elim}
 use Prim.Native.Nat.{ℕ, ◌+◌, ◌-◌, ◌*◌, ◌/◌, ◌<◌, ◌≤◌}
 use native.Mathlib.Omega.{arith}
 use native.Mathlib.Nat.{eq-or-lt_of_le}
+use Rattle.std.proofs.lemmas.Bool.{cases_lt}
 use Rattle.rules.specs.Rules.{segment_bytes, most_segments, longest_job}
 use Rattle.cutting.specs.Cutting.{count_of, begin_of, end_of}
 use Rattle.cutting.proofs.Cuts.{full_within as cut-within, full_beyond as cut-beyond, begin_within, end_within, end_last}
-use Rattle.decimal.proofs.Digits.{lt_or_ge}
 use Rattle.lists.specs.Lists.{segment_length}
 
 pub count_some : (n : ℕ) → 1 ≤ count_of n
@@ -25,13 +25,13 @@ unfolding begin_of end_of
 begin_end n i =
     ⊎_elim (λ (l : n < i * segment_bytes). omega (arith, cut-beyond n i l, cut-beyond n (i + 1) (omega arith)))
     (λ (g : i * segment_bytes ≤ n).
-    ⊎_elim (λ (l : n < (i + 1) * segment_bytes). omega (arith, cut-within n i g, cut-beyond n (i + 1) l)) (λ (h : (i + 1) * segment_bytes ≤ n). omega (arith, cut-within n i g, cut-within n (i + 1) h)) (lt_or_ge n ((i + 1) * segment_bytes)))
-    (lt_or_ge n (i * segment_bytes))
+    ⊎_elim (λ (l : n < (i + 1) * segment_bytes). omega (arith, cut-within n i g, cut-beyond n (i + 1) l)) (λ (h : (i + 1) * segment_bytes ≤ n). omega (arith, cut-within n i g, cut-within n (i + 1) h)) (cases_lt n ((i + 1) * segment_bytes)))
+    (cases_lt n (i * segment_bytes))
 
 -- a length between k and k + 1 segments
 pub count_at : (n k : ℕ) → n ≤ (k + 1) * segment_bytes → (1 ≤ k → k * segment_bytes < n) → count_of n ≡ k + 1
 unfolding count_of
-count_at n k h p = ⊎_elim (λ (z : k < 1). omega arith) (λ (g : 1 ≤ k). omega (arith, p g)) (lt_or_ge k 1)
+count_at n k h p = ⊎_elim (λ (z : k < 1). omega arith) (λ (g : 1 ≤ k). omega (arith, p g)) (cases_lt k 1)
 
 -- all but the last are full, and the last has what they leave
 pub length_full : (n i : ℕ) → i + 1 < count_of n → segment_length n i ≡ segment_bytes

@@ -8,8 +8,9 @@ use native.Mathlib.Omega.{arith}
 use borrow.Author.Tests.{ne_eqb}
 use lib.ListN.{length, drop}
 use lib.Seq.{drop-append-add}
+use Rattle.std.specs.List.{All}
+use Rattle.std.proofs.lemmas.List.Elements.{All-head, All-tail}
 use Rattle.decimal.specs.Decimal.{num_text}
-use Rattle.decimal.proofs.Every.{All}
 use Rattle.decimal.proofs.Digits.{Digit, num_digits}
 use Rattle.fields.specs.Fields.{tab, newline, ends, field_of}
 use Rattle.fields.proofs.Fields.{field_text, field_rest}
@@ -23,7 +24,7 @@ no_end b h = rw (ne_eqb b tab (λ e. omega (arith, h.0)), ne_eqb b newline (λ e
 digits_field : (x : List ℕ) (stop : ℕ) (rest : List ℕ) → All Digit x → ends stop ≡ true → field_of (x ++ (stop ∷ rest)) ≡ x
 unfolding field_of
 digits_field [] stop rest h e = rw e
-digits_field (b ∷ x) stop rest h e = rw (no_end b h.0) (ap (λ (l : List ℕ). b ∷ l) (digits_field x stop rest h.1 e))
+digits_field (b ∷ x) stop rest h e = rw (no_end b (All-head Digit b x h)) (ap (λ (l : List ℕ). b ∷ l) (digits_field x stop rest (All-tail Digit b x h) e))
 
 -- a number at a place: the field there is its text, and the next place is behind the byte that ended it
 number_field : (t : List ℕ) (at n stop : ℕ) (rest : List ℕ) → ends stop ≡ true → drop at t ≡ num_text n ++ (stop ∷ rest)

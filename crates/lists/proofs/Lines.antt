@@ -10,7 +10,8 @@ use native.Mathlib.Nat.{not-suc-le-zero, add-zero, add-suc, eq-or-lt_of_le, le_o
 use borrow.Author.Tests.{ne_eqb}
 use lib.Dec.{eqb}
 use lib.ListN.{length, length-append}
-use Rattle.decimal.proofs.Every.{All}
+use Rattle.std.specs.List.{All}
+use Rattle.std.proofs.lemmas.List.Elements.{All-head, All-tail}
 use Rattle.fields.specs.Fields.{newline}
 use Rattle.lists.specs.Lists.{lines_of}
 use Rattle.lists.specs.Lines.{first_line, after_line, after_lines, first_lines}
@@ -27,12 +28,12 @@ Lined l = (y : List ℕ) × All NoNewline y × (l ≡ y ++ (newline ∷ []))
 first_of : (y more : List ℕ) → All NoNewline y → first_line (y ++ (newline ∷ more)) ≡ y ++ (newline ∷ [])
 unfolding first_line
 first_of [] more h = refl
-first_of (b ∷ y) more h = rw (ne_eqb b newline h.0) (ap (λ (l : List ℕ). b ∷ l) (first_of y more h.1))
+first_of (b ∷ y) more h = rw (ne_eqb b newline (All-head NoNewline b y h)) (ap (λ (l : List ℕ). b ∷ l) (first_of y more (All-tail NoNewline b y h)))
 
 after_of : (y more : List ℕ) → All NoNewline y → after_line (y ++ (newline ∷ more)) ≡ more
 unfolding after_line
 after_of [] more h = refl
-after_of (b ∷ y) more h = rw (ne_eqb b newline h.0) (after_of y more h.1)
+after_of (b ∷ y) more h = rw (ne_eqb b newline (All-head NoNewline b y h)) (after_of y more (All-tail NoNewline b y h))
 
 pub line_first : (l more : List ℕ) → Lined l → first_line (l ++ more) ≡ l
 line_first l more b =

@@ -8,9 +8,9 @@ use native.Mathlib.Omega.{arith}
 use native.Mathlib.Numerals.{add-one}
 use native.Mathlib.Nat.{eq-or-lt_of_le, le_refl}
 use lib.ListN.{length}
+use Rattle.std.proofs.lemmas.Bool.{cases_lt}
 use Rattle.rules.specs.Rules.{segment_bytes, most_segments, longest_job}
 use Rattle.cutting.specs.Cutting.{count_of}
-use Rattle.decimal.proofs.Digits.{lt_or_ge}
 use Rattle.lists.specs.Lists.{line_text, segment_length, lines_of, line_at, list_text}
 use Rattle.lists.specs.Lines.{first_line, after_line, after_lines, first_lines}
 use Rattle.lists.proofs.Lengths.{count_some, count_most, count_at, length_full, length_last, length_most, length_some, length_from, full_count, full_length, full_within}
@@ -44,7 +44,7 @@ first_of_list j r n m p =
     (u.0, u.1, ap (first_lines m) (sym (append-nil (lines_of (line_at j r n) (count_of n)))) ∙ first_fewer (line_at j r n) (lined j r n) m (count_of n) [] (omega arith) ∙ u.2))
     (λ (g : count_of n ≤ m).
     let d : m ≡ count_of n + (m - count_of n) = omega arith in
-    (n, le_refl n, ap (λ (k : ℕ). first_lines k (lines_of (line_at j r n) (count_of n))) d ∙ first_more (line_at j r n) (lined j r n) (count_of n) (m - count_of n))) (lt_or_ge m (count_of n))
+    (n, le_refl n, ap (λ (k : ℕ). first_lines k (lines_of (line_at j r n) (count_of n))) d ∙ first_more (line_at j r n) (lined j r n) (count_of n) (m - count_of n))) (cases_lt m (count_of n))
 
 -- ---- One text, one job
 
@@ -57,7 +57,7 @@ list_once j r n j' r' n' e =
     ⊎_elim (λ (h : count_of n < count_of n'). absurd (no_more_lines a b (lined j r n) (lined j' r' n') (count_of n) (count_of n') e h))
     (λ (g : count_of n' ≤ count_of n).
     ⊎_elim (λ (q : count_of n' ≡ count_of n). sym q) (λ (l : count_of n' < count_of n). absurd (no_more_lines b a (lined j' r' n') (lined j r n) (count_of n') (count_of n) (sym e) l)) (eq-or-lt_of_le g))
-    (lt_or_ge (count_of n) (count_of n')) in
+    (cases_lt (count_of n) (count_of n')) in
     let k : ℕ = count_of n - 1 in
     let same : line_at j r n (count_of n - 1) ≡ line_at j' r' n' (count_of n - 1) =
     same_lines a b (lined j r n) (lined j' r' n') (count_of n) (e ∙ ap (lines_of b) (sym c)) (count_of n - 1) (omega (arith, count_some n)) in
@@ -115,7 +115,7 @@ follows j r n j' r' n' k t rest hn hk h pos eq =
     let none : first_line rest ≡ [] =
     sym (after_lines_lem a (lined j r n) k (first_line rest)) ∙ ap (after_lines k) e ∙ ap (λ (m : ℕ). after_lines m (lines_of (line_at j' r' n') (count_of n'))) d
     ∙ after_more b (lined j' r' n') (count_of n') (k - count_of n') in
-    absurd (omega (arith, first_none rest none))) (lt_or_ge k (count_of n'))
+    absurd (omega (arith, first_none rest none))) (cases_lt k (count_of n'))
 
 module _ (j r : ℕ) where
   -- a text whose first line is a list begins with that list's first line

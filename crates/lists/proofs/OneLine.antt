@@ -5,8 +5,9 @@ use mathlib.Core.List.{List, [], ◌∷◌, ◌++◌, append_assoc, append_cance
 use Prim.Native.Nat.{ℕ, ◌+◌, ◌<◌}
 use native.Mathlib.Omega.{arith}
 use lib.ListN.{length, length-append}
+use Rattle.std.specs.List.{All}
+use Rattle.std.proofs.lemmas.List.Elements.{All-cons, All-append, All-weaker}
 use Rattle.decimal.specs.Decimal.{num_text, digits_of}
-use Rattle.decimal.proofs.Every.{All, all_append, all_map}
 use Rattle.decimal.proofs.Digits.{Digit, num_digits, num_inj}
 use Rattle.decimal.proofs.Runs.{run_then}
 use Rattle.fields.specs.Fields.{tab, newline}
@@ -59,15 +60,14 @@ line_once j r i n j' r' i' n' a b e =
     (p.0, q.0, s.0, u.0)
 
 digits_plain : (n : ℕ) → All NoNewline (num_text n)
-digits_plain n = all_map Digit NoNewline (λ b h e. omega arith) (num_text n) (num_digits n)
+digits_plain n = All-weaker Digit NoNewline (λ b h e. omega arith) (num_text n) (num_digits n)
 
 pub line_lined : (j r i n : ℕ) → Lined (line_text j r i n)
 unfolding line_text line_of
 line_lined j r i n =
-    let plain : NoNewline tab = λ h. omega arith in (
+    let then = λ (n : ℕ) (l : List ℕ) (h : All NoNewline l). All-append NoNewline (num_text n) (tab ∷ l) (digits_plain n) (All-cons NoNewline tab l (λ e. omega arith) h) in (
       num_text j ++ (tab ∷ (num_text r ++ (tab ∷ (num_text i ++ (tab ∷ num_text n))))),
-      all_append NoNewline (num_text j) _ (digits_plain j)
-          (plain, all_append NoNewline (num_text r) _ (digits_plain r) (plain, all_append NoNewline (num_text i) _ (digits_plain i) (plain, digits_plain n))),
+      then j _ (then r _ (then i _ (digits_plain n))),
       simp append_assoc,
     )
 

@@ -10,6 +10,7 @@ use borrow.Author.Tests.{eqb-true, eq-eqb}
 use lib.Dec.{eqb}
 use lib.ListN.{length, take, drop, length-append, length-drop, drop_of_length-le}
 use lib.Seq.{take_at}
+use Rattle.std.specs.Prelude.{Some, None, Ok}
 use Rattle.answers.proofs.Chain.{both, and_true}
 use Rattle.rules.specs.Rules.{segment_bytes, most_segments}
 use Rattle.cutting.specs.Cutting.{count_of, segment_ok}
@@ -19,9 +20,6 @@ use Rattle.lists.specs.Pieces.{front_text, rest_text}
 use Rattle.lists.specs.Lines.{FirstBad}
 use Rattle.lists.specs.Places.{LineIs, is_first, SegmentIs}
 use Rattle.lists.specs.Readings.{ReadAs}
-use Rattle.lists.specs.declared.Reading.TheVariants.{Taken}
-use Rattle.lists.specs.declared.line.Line.TheVariants.{Fields, NoLine}
-use Rattle.lists.specs.declared.line.Segment.TheVariants.{Length, NoSegment}
 use Rattle.lists.proofs.Lengths.{count_some}
 use Rattle.lists.proofs.OneLine.{line_once, front_rest}
 use Rattle.lists.proofs.Listing.{CanFollow, first_good, next_good}
@@ -41,10 +39,10 @@ pub record Read (t : List ℕ) (front j r n k at : ℕ) : Type 0 where
   pub place : at ≤ length t
   pub text : t ≡ list_text j r n ++ drop at t
 
-pub no_first : (t : List ℕ) → LineIs t 0 NoLine → FirstBad t 1
+pub no_first : (t : List ℕ) → LineIs t 0 None → FirstBad t 1
 no_first t none = bad_first t (λ j r l more hj hr hl e. none j r 0 l more hj hr (omega arith) (omega arith) e)
 
-module _ (t : List ℕ) (j r i n next : ℕ) (line : LineIs t 0 (Fields j r i n next)) where
+module _ (t : List ℕ) (j r i n next : ℕ) (line : LineIs t 0 (Some (record { job = j; revision = r; index = i; body = n; next = next }))) where
   pub other_first : is_first i n ≡ false → FirstBad t 1
   unfolding is_first
   other_first fails =
@@ -70,7 +68,7 @@ module _ (t : List ℕ) (front j r n k at : ℕ) (read : Read t front j r n k at
   the_line : (l : ℕ) → take front t ++ rest_text k l ≡ line_text j r k l
   the_line l = ap (λ (x : List ℕ). x ++ rest_text k l) read.fronted ∙ front_rest j r k l
 
-  pub goes_on : (l next : ℕ) → n ≡ k * segment_bytes → SegmentIs t at front k (Length l next) → Read t front j r (n + l) (k + 1) next
+  pub goes_on : (l next : ℕ) → n ≡ k * segment_bytes → SegmentIs t at front k (Some (l, next)) → Read t front j r (n + l) (k + 1) next
   goes_on l next full q =
       let rule = last_rule k l q.0 in
       let some : 1 ≤ l = ⊎_elim (λ (p : 1 ≤ l). p) (λ (z : k ≡ 0). absurd (omega (arith, count_some n, read.counted))) rule.1.0 in
@@ -96,11 +94,11 @@ module _ (t : List ℕ) (front j r n k at : ℕ) (read : Read t front j r n k at
   pub not_full : at < length t → (n ≡ k * segment_bytes → ⊥) → FirstBad t (k + 1)
   not_full h differs = bad h (λ l more can e. differs can.full)
 
-  pub other_next : at < length t → SegmentIs t at front k NoSegment → FirstBad t (k + 1)
+  pub other_next : at < length t → SegmentIs t at front k None → FirstBad t (k + 1)
   other_next h none =
       bad h (λ l more can e. none l more (last_ok k l can.most (inl can.some) can.few) (e ∙ ap (λ (x : List ℕ). x ++ more) (sym (the_line l))))
 
-  pub ends : length t ≤ at → ReadAs t (Taken j r k n)
+  pub ends : length t ≤ at → ReadAs t (Ok (record { job = j; revision = r; segments = k; body = n }))
   ends h = (
     record {
       job_fits = read.job_fits;

@@ -1,15 +1,13 @@
 -- What is promised of lists, of any text and whatever reading gives for it. Proved in proofs/Exact.antt and LineFields.antt.
 -- Assumes nothing.
-use Rattle.std.specs.Prelude.{◌≡◌, ◌↔◌, List, [], ◌++◌, ℕ, ◌-◌, ◌<◌, ◌≤◌, ◌^◌, take, drop}
+use Rattle.std.specs.Prelude.{◌≡◌, ◌↔◌, List, [], ◌++◌, ℕ, ◌-◌, ◌<◌, ◌≤◌, ◌^◌, take, drop, Ok, Err}
 use Rattle.rules.specs.Rules.{longest_job}
 use Rattle.cutting.specs.Cutting.{count_of}
 use Rattle.decimal.specs.Decimal.{num_text}
 use Rattle.fields.specs.Fields.{field_at}
 use Rattle.lists.specs.Lists.{line_text, list_text}
 use Rattle.lists.specs.Written.{CanWrite}
-use Rattle.lists.specs.Readings.{ReadAs, IsTaken}
-use Rattle.lists.specs.declared.Reading.{Reading}
-use Rattle.lists.specs.declared.Reading.TheVariants.{Taken, Refused}
+use Rattle.lists.specs.Readings.{Reading, ReadAs, IsTaken}
 
 -- reading takes exactly the texts that the writer can write
 abbrev pub TakesExactly : Type 0
@@ -17,7 +15,7 @@ TakesExactly = (t : List ℕ) (a : Reading) → ReadAs t a → IsTaken a ↔ Can
 
 -- and gives back what they were written from
 abbrev pub ReadsBack : Type 0
-ReadsBack = (job revision n : ℕ) (a : Reading) → job < 2 ^ 64 → revision < 2 ^ 64 → n ≤ longest_job → ReadAs (list_text job revision n) a → a ≡ Taken job revision (count_of n) n
+ReadsBack = (job revision n : ℕ) (a : Reading) → job < 2 ^ 64 → revision < 2 ^ 64 → n ≤ longest_job → ReadAs (list_text job revision n) a → a ≡ Ok (record { job = job; revision = revision; segments = count_of n; body = n })
 
 -- a text is read in one way: it has one job, revision and length, or one first bad line
 abbrev pub ReadsOneWay : Type 0
@@ -25,7 +23,7 @@ ReadsOneWay = (t : List ℕ) (a b : Reading) → ReadAs t a → ReadAs t b → a
 
 -- an empty file is refused at line 1
 abbrev pub RefusesEmpty : Type 0
-RefusesEmpty = (a : Reading) → ReadAs [] a → a ≡ Refused 1
+RefusesEmpty = (a : Reading) → ReadAs [] a → a ≡ Err (record { line = 1 })
 
 -- ---- A reader of fields on a list
 

@@ -16,18 +16,21 @@ use rules::{LONGEST_JOB, SEGMENT};
 mod line;
 mod put;
 
-use line::{Line, Segment, first_ok, line_at, segment_at};
+use line::{first_ok, line_at, segment_at};
 
-// What a list says: its job and revision, how many segments there are, and the bytes of the body; or the number, from 1, of the first bad line.
+// What a list says: its job and revision, how many segments there are, and the bytes of the body.
 #[derive(Clone, Copy)]
-pub enum Reading {
-    Taken {
-        job: u64,
-        revision: u64,
-        segments: u64,
-        body: u64,
-    },
-    Refused(u64),
+pub struct Job {
+    pub job: u64,
+    pub revision: u64,
+    pub segments: u64,
+    pub body: u64,
+}
+
+// The first bad line of a text that is no list, counted from 1.
+#[derive(Clone, Copy)]
+pub struct BadLine {
+    pub line: u64,
 }
 
 // The most bytes of a line's front: two numbers of twenty digits, and their tabs.
@@ -102,52 +105,42 @@ fn write_behind(front: &[u8], body: u64, out: &mut [u8])
     requires { length out.old ≡ length (lines_behind front.now body) }
     ensures { out.new ≡ lines_behind front.now body }
 {
-    let lines = count(body);
     let mut at: usize = 0;
-    let mut i: u64 = 0;
-    while i < lines {
+    for i in 0..count(body) {
         at = put::line(front, i, segment_length(body, i), &mut *out, at);
-        i += 1;
     }
 }
 
 // Reads a text as a list, in one pass: taken exactly where it is one that the writer can write.
-pub fn read_list(text: &[u8]) -> Reading
+pub fn read_list(text: &[u8]) -> Result<Job, BadLine>
     ensures { ReadAs text.now result }
 {
-    let Line::Fields {
-        job,
-        revision,
-        index,
-        body: first,
-        next: second,
-    } = line_at(text, 0)
-    else {
-        return Reading::Refused(1);
+    let Some(first) = line_at(text, 0) else {
+        return Err(BadLine { line: 1 });
     };
-    if !first_ok(index, first) {
-        return Reading::Refused(1);
+    if !first_ok(first.index, first.body) {
+        return Err(BadLine { line: 1 });
     }
-    let front = put::front_length(job, revision);
-    let mut at = second;
-    let mut body = first;
+    let front = put::front_length(first.job, first.revision);
+    let mut at = first.next;
+    let mut body = first.body;
     let mut lines: u64 = 1;
     while at < text.len() {
-        let number = lines + 1;
+        let bad = BadLine { line: lines + 1 };
         if body != lines * SEGMENT as u64 {
-            return Reading::Refused(number);
+            return Err(bad);
         }
-        let Segment::Length { body: more, next } = segment_at(text, at, front, lines) else {
-            return Reading::Refused(number);
+        let Some((more, next)) = segment_at(text, at, front, lines) else {
+            return Err(bad);
         };
         at = next;
         body += more;
         lines += 1;
     }
-    Reading::Taken {
-        job,
-        revision,
+    Ok(Job {
+        job: first.job,
+        revision: first.revision,
         segments: lines,
         body,
-    }
+    })
 }

@@ -50,8 +50,7 @@ fn ending(body: u64, out: &mut [u8], at: usize) -> usize
     ensures text { out.new ≡ laid out.old at (num_text body ++ (newline ∷ [])) }
 {
     if body == SEGMENT as u64 {
-        let full = *b"65536\n";
-        return text(&full, out, at);
+        return text(b"65536\n", out, at);
     }
     part(body, b'\n', out, at)
 }

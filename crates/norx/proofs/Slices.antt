@@ -41,12 +41,6 @@ take-replicate zero R a h = refl
 take-replicate (suc n) zero a h = absurd (not-suc-le-zero h)
 take-replicate (suc n) (suc R) a h = ap (λ (l : List ℕ). a ∷ l) (take-replicate n R a (le_of_suc-le-suc h))
 
--- a list that was filled to its end
-pub filled_all : (n i a : ℕ) (d : List ℕ) → length d ≡ n → i ≡ n → replicate i a ++ drop i d ≡ replicate n a
-filled_all n i a d h e =
-    ap (λ (k : ℕ). replicate k a ++ drop k d) e
-    ∙ ap (λ (t : List ℕ). replicate n a ++ t) (drop_of_length-le d {i = n} (le_of_eq h)) ∙ append-nil (replicate n a)
-
 -- how a length divides into blocks
 pub blocks_le : (n R : ℕ) → 0 < R → n / R * R ≤ n
 blocks_le n R h = omega (arith, div-add-mod' n R)

@@ -8,9 +8,10 @@ use native.Mathlib.Omega.{arith}
 use lib.ListN.{length, get_or, set, take}
 use lib.Seq.{take-suc, take-suc-set}
 use borrow.Author.Tests.{lt-ltb, le-ltb}
+use Rattle.std.specs.Prelude.{Option, Some, None, IsSome}
+use Rattle.std.proofs.lemmas.Bool.{cases_lt}
 use Rattle.norx.specs.Texts.{Bytes}
-use Rattle.decimal.proofs.Digits.{lt_or_ge}
-use Rattle.spelled.specs.Spelled.{hex_digit, hex_text, IsDigit, DigitIs, AllDigits}
+use Rattle.spelled.specs.Spelled.{hex_digit, hex_text, IsDigit, PairIs, AllDigits}
 
 -- ---- One digit
 
@@ -25,14 +26,14 @@ digit_high d h = rw (le-ltb d 10 h)
 digit_inj : (a b : ℕ) → hex_digit a ≡ hex_digit b → a ≡ b
 digit_inj a b e =
     ⊎_elim
-    (λ la. ⊎_elim (λ lb. omega (arith, digit_low a la, digit_low b lb)) (λ gb. omega (arith, digit_low a la, digit_high b gb)) (lt_or_ge b 10))
-    (λ ga. ⊎_elim (λ lb. omega (arith, digit_high a ga, digit_low b lb)) (λ gb. omega (arith, digit_high a ga, digit_high b gb)) (lt_or_ge b 10)) (lt_or_ge a 10)
+    (λ la. ⊎_elim (λ lb. omega (arith, digit_low a la, digit_low b lb)) (λ gb. omega (arith, digit_low a la, digit_high b gb)) (cases_lt b 10))
+    (λ ga. ⊎_elim (λ lb. omega (arith, digit_high a ga, digit_low b lb)) (λ gb. omega (arith, digit_high a ga, digit_high b gb)) (cases_lt b 10)) (cases_lt a 10)
 
 -- a byte that is no digit's
 pub no_digit : (b : ℕ) → (b < 48) ⊎ (((57 < b) × (b < 97)) ⊎ (102 < b)) → IsDigit b → ⊥
 no_digit b out (d, h, e) =
     ⊎_elim (λ l. ⊎_elim (λ o. omega (arith, digit_low d l)) (λ o. ⊎_elim (λ p. omega (arith, digit_low d l, p.0)) (λ p. omega (arith, digit_low d l)) o) out)
-    (λ g. ⊎_elim (λ o. omega (arith, digit_high d g)) (λ o. ⊎_elim (λ p. omega (arith, digit_high d g, p.1)) (λ p. omega (arith, digit_high d g)) o) out) (lt_or_ge d 10)
+    (λ g. ⊎_elim (λ o. omega (arith, digit_high d g)) (λ o. ⊎_elim (λ p. omega (arith, digit_high d g, p.1)) (λ p. omega (arith, digit_high d g)) o) out) (cases_lt d 10)
 
 -- ---- Texts
 
@@ -92,23 +93,17 @@ hex_pair a b ha hb =
     let r : (a * 16 + b) % 16 ≡ b = omega arith in
     ap₂ (λ (x y : ℕ). hex_digit x ∷ hex_digit y ∷ []) q r
 
--- a digit is read as itself
-pub digit_read : (b d : ℕ) → IsDigit b → DigitIs b d → (d < 16) × (b ≡ hex_digit d)
-digit_read b d is = ⊎_elim (λ p. p) (λ p. absurd (p.1 is))
-
--- what is read as 16 is no digit, and what is read as another number is one
-pub read_none : (b d : ℕ) → d ≡ 16 → DigitIs b d → IsDigit b → ⊥
-read_none b d e = ⊎_elim (λ p. absurd (omega (arith, p.0))) (λ p. p.1)
-
-pub read_some : (b d : ℕ) → (d ≡ 16 → ⊥) → DigitIs b d → IsDigit b
-read_some b d ne = ⊎_elim (λ p. (d, p.0, p.1)) (λ p. absurd (ne p.0))
+-- two digits are a byte's
+pub pair_some : (high low : ℕ) (r : Option ℕ) → IsDigit high → IsDigit low → PairIs high low r → IsSome r
+pair_some high low (Some b) h l p = refl
+pair_some high low None h l none = absurd (none h l)
 
 pub digits_more : (w : List ℕ) (i : ℕ) → ((k : ℕ) → k < i → IsDigit (get_or w k 0)) → IsDigit (get_or w i 0) → (k : ℕ) → k < i + 1 → IsDigit (get_or w k 0)
 digits_more w i before is k h =
     ⊎_elim (before k)
     (λ g.
     let e : i ≡ k = omega arith in
-    subst (λ (j : ℕ). IsDigit (get_or w j 0)) e is) (lt_or_ge k i)
+    subst (λ (j : ℕ). IsDigit (get_or w j 0)) e is) (cases_lt k i)
 
 -- a byte laid behind those whose text the first digits are
 pub laid_next : (w out : List ℕ) (i b : ℕ) → 2 * i + 1 < length w → i < length out → hex_text (b ∷ []) ≡ get_or w (2 * i) 0 ∷ get_or w (2 * i + 1) 0 ∷ []

@@ -3,17 +3,15 @@
 use mathlib.Core.Path.{◌≡◌, refl, sym, ap, ap₂, subst, ◌∙◌}
 use mathlib.Core.Logic.{inl, inr, ⊎_elim}
 use mathlib.Core.List.{List, [], ◌∷◌, ◌++◌}
-use Prim.Native.Nat.{ℕ, zero, suc, ◌-◌, ◌*◌, ◌<◌, ◌≤◌}
+use Prim.Native.Nat.{ℕ, zero, suc, ◌*◌, ◌<◌, ◌≤◌}
 use native.Mathlib.Omega.{arith}
-use native.Mathlib.Nat.{sub-zero}
 use lib.ListN.{length, get_or, take, drop, replicate, length-replicate, take-append-drop}
 use lib.Seq.{length-take-le}
+use Rattle.std.specs.Prelude.{Option, Some, None}
 use Rattle.norx.specs.Texts.{Bytes}
 use Rattle.decimal.specs.Decimal.{num_text}
 use Rattle.decimal.proofs.Digits.{length_pos, num_inj}
 use Rattle.spelled.specs.Spelled.{hex_text, AsPairs, AsTimes, Spells, ReadIs, IsDigit, AllDigits, Starred}
-use Rattle.spelled.specs.declared.Spelled.{Spelled}
-use Rattle.spelled.specs.declared.Spelled.TheVariants.{Length, Nothing}
 use Rattle.spelled.proofs.Hex.{no_digit, length_hex, hex_inj, hex_digits, digits_bytes}
 
 -- ---- Pairs
@@ -101,22 +99,22 @@ spells_unique w x y (inr (inr p)) (inr (inr q)) = times_unique w x y p q
 
 -- ---- What reading gives
 
-pub read_as : (S T : List ℕ → Type 0) (o a : List ℕ) (r : Spelled) → ((l : List ℕ) → S l → T l) → ((l : List ℕ) → T l → S l) → ReadIs S o a r → ReadIs T o a r
-read_as S T o a (Length n) to from (l, s, k, room, e) = (l, to l s, k, room, e)
-read_as S T o a Nothing to from (none, same) = ((λ l t. none l (from l t)), same)
+pub read_as : (S T : List ℕ → Type 0) (o a : List ℕ) (r : Option ℕ) → ((l : List ℕ) → S l → T l) → ((l : List ℕ) → T l → S l) → ReadIs S o a r → ReadIs T o a r
+read_as S T o a (Some n) to from (l, s, k, room, e) = (l, to l s, k, room, e)
+read_as S T o a None to from (none, same) = ((λ l t. none l (from l t)), same)
 
-pub read_unique : (w o a b : List ℕ) (r s : Spelled) → ReadIs (Spells w) o a r → ReadIs (Spells w) o b s → (r ≡ s) × (a ≡ b)
-read_unique w o a b (Length m) (Length n) (x, p, hm, rm, ea) (y, q, hn, rn, eb) =
+pub read_unique : (w o a b : List ℕ) (r s : Option ℕ) → ReadIs (Spells w) o a r → ReadIs (Spells w) o b s → (r ≡ s) × (a ≡ b)
+read_unique w o a b (Some m) (Some n) (x, p, hm, rm, ea) (y, q, hn, rn, eb) =
     let e : x ≡ y = spells_unique w x y p q in
     let k : m ≡ n = omega (arith, ap length e) in
-    (ap Length k, ea ∙ ap₂ (λ (l : List ℕ) (i : ℕ). l ++ drop i o) e k ∙ sym eb)
-read_unique w o a b (Length m) Nothing (x, p, hm, rm, ea) (none, same) = absurd (none x p (omega arith))
-read_unique w o a b Nothing (Length n) (none, same) (y, q, hn, rn, eb) = absurd (none y q (omega arith))
-read_unique w o a b Nothing Nothing (none, same) (none2, same2) = (refl, same ∙ sym same2)
+    (ap Some k, ea ∙ ap₂ (λ (l : List ℕ) (i : ℕ). l ++ drop i o) e k ∙ sym eb)
+read_unique w o a b (Some m) None (x, p, hm, rm, ea) (none, same) = absurd (none x p (omega arith))
+read_unique w o a b None (Some n) (none, same) (y, q, hn, rn, eb) = absurd (none y q (omega arith))
+read_unique w o a b None None (none, same) (none2, same2) = (refl, same ∙ sym same2)
 
 -- the bytes whose text the word is, laid to the front
 pub pairs_laid : (w o a : List ℕ) (n : ℕ) → AllDigits w → 1 ≤ n → n ≤ length o → length a ≡ length o → hex_text (take n a) ≡ w → drop n a ≡ drop n o
-    → ReadIs (AsPairs w) o a (Length n)
+    → ReadIs (AsPairs w) o a (Some n)
 pairs_laid w o a n digits some room same text rest =
     let k : length (take n a) ≡ n = length-take-le n a (omega arith) in (
       take n a,
@@ -126,9 +124,9 @@ pairs_laid w o a n digits some room same text rest =
       sym (take-append-drop n a) ∙ ap (λ (t : List ℕ). take n a ++ t) rest,
     )
 
--- one byte laid over the first n, which the code cuts out as those from 0 to n
-pub times_laid : (w o front : List ℕ) (b n : ℕ) → AsTimes w (replicate n b) → n ≤ length o → front ≡ replicate (length (take (n - 0) o)) b
-    → ReadIs (AsTimes w) o (front ++ drop (n - 0) o) (Length n)
+-- one byte laid over the first n
+pub times_laid : (w o front : List ℕ) (b n : ℕ) → AsTimes w (replicate n b) → n ≤ length o → front ≡ replicate (length (take n o)) b
+    → ReadIs (AsTimes w) o (front ++ drop n o) (Some n)
 times_laid w o front b n is room e =
-    let k : front ≡ replicate n b = (rw sub-zero at e) ∙ ap (λ (m : ℕ). replicate m b) (length-take-le n o room) in
-    (replicate n b, is, length-replicate n b, room, ap₂ (λ (t : List ℕ) (m : ℕ). t ++ drop m o) k (sub-zero n))
+    let k : front ≡ replicate n b = e ∙ ap (λ (m : ℕ). replicate m b) (length-take-le n o room) in
+    (replicate n b, is, length-replicate n b, room, ap (λ (t : List ℕ). t ++ drop n o) k)

@@ -1,10 +1,8 @@
 -- Bytes spelled as a word of text: the words that spell some bytes, and what reading a word and writing bytes give, on all inputs.
 -- Assumes nothing.
-use Rattle.std.specs.Prelude.{◌≡◌, ◌⊎◌, Bool, true, false, cond, List, [], ◌∷◌, ◌++◌, ℕ, ◌+◌, ◌/◌, ◌%◌, ◌<◌, ◌≤◌, ltb, leb, length, get_or, drop, replicate}
+use Rattle.std.specs.Prelude.{◌≡◌, ◌⊎◌, Bool, true, false, cond, List, [], ◌∷◌, ◌++◌, ℕ, ◌+◌, ◌/◌, ◌%◌, ◌<◌, ◌≤◌, ltb, leb, length, get_or, drop, replicate, Option, Some, None}
 use Rattle.norx.specs.Texts.{Bytes}
 use Rattle.decimal.specs.Decimal.{num_text}
-use Rattle.spelled.specs.declared.Spelled.{Spelled}
-use Rattle.spelled.specs.declared.Spelled.TheVariants.{Length, Nothing}
 
 -- the byte of a hexadecimal digit: 0 is 48, 9 is 57, a is 97, and f is 102
 unfoldable pub hex_digit : ℕ → ℕ
@@ -35,9 +33,9 @@ Spells word l = AsNone word l ⊎ (AsPairs word l ⊎ AsTimes word l)
 -- ---- What reading gives
 
 -- bytes that are S, and how many, at the front of a buffer that has room for them; nothing, and the buffer as it was, where no such bytes have room in it
-abbrev pub ReadIs : (List ℕ → Type 0) → List ℕ → List ℕ → Spelled → Type 0
-ReadIs S out after (Length n) = (l : List ℕ) × S l × (length l ≡ n) × (n ≤ length out) × (after ≡ l ++ drop n out)
-ReadIs S out after Nothing = ((l : List ℕ) → S l → length l ≤ length out → ⊥) × (after ≡ out)
+abbrev pub ReadIs : (List ℕ → Type 0) → List ℕ → List ℕ → Option ℕ → Type 0
+ReadIs S out after (Some n) = (l : List ℕ) × S l × (length l ≡ n) × (n ≤ length out) × (after ≡ l ++ drop n out)
+ReadIs S out after None = ((l : List ℕ) → S l → length l ≤ length out → ⊥) × (after ≡ out)
 
 -- ---- What writing gives
 
@@ -58,9 +56,15 @@ put_length word out = cond (leb (length word) (length out)) (length word) 0
 abbrev pub IsDigit : ℕ → Type 0
 IsDigit b = (d : ℕ) × (d < 16) × (b ≡ hex_digit d)
 
--- what a byte is read as: the digit that it is, or 16 where it is none
-abbrev pub DigitIs : ℕ → ℕ → Type 0
-DigitIs b d = ((d < 16) × (b ≡ hex_digit d)) ⊎ ((d ≡ 16) × (IsDigit b → ⊥))
+-- what a byte is read as: the digit that it is, or nothing where it is none
+abbrev pub DigitIs : ℕ → Option ℕ → Type 0
+DigitIs b (Some d) = (d < 16) × (b ≡ hex_digit d)
+DigitIs b None = IsDigit b → ⊥
+
+-- what two bytes are read as: the byte whose digits they are, or nothing where one is no digit
+abbrev pub PairIs : ℕ → ℕ → Option ℕ → Type 0
+PairIs high low (Some b) = (b < 256) × (hex_text (b ∷ []) ≡ high ∷ low ∷ [])
+PairIs high low None = IsDigit high → IsDigit low → ⊥
 
 abbrev pub AllDigits : List ℕ → Type 0
 AllDigits word = (i : ℕ) → i < length word → IsDigit (get_or word i 0)

@@ -1,81 +1,47 @@
 // Bytes spelled as a word of text: `0f20`, a pair of hexadecimal digits for each byte; `-`, no bytes; `a5*300`, one byte so many times.
 #![tactic(auto)]
 
-ghost use Rattle.std.specs.Prelude.{◌≡◌, ◌*◌, ◌<◌, ◌≤◌, [], ◌∷◌, ◌++◌, length, take, drop, replicate};
-ghost use Rattle.spelled.specs.Spelled.{hex_digit, hex_text, plain_word, put_front, put_length, AsPairs, AsTimes, Spells, ReadIs, IsDigit, DigitIs, AllDigits, Starred, Says};
+ghost use Rattle.std.specs.Prelude.{◌≡◌, ◌*◌, ◌<◌, ◌≤◌, [], ◌∷◌, ◌++◌, length, take, drop};
+ghost use Rattle.spelled.specs.Spelled.{hex_digit, hex_text, plain_word, put_front, put_length, AsPairs, AsTimes, Spells, ReadIs, DigitIs, PairIs, AllDigits, Starred, Says};
 
-use decimal::{Number, read_number};
+use decimal::read_number;
 
-// How many bytes a word spells, or that there is nothing to be read.
-#[derive(Clone, Copy)]
-pub enum Spelled {
-    Length(usize),
-    Nothing,
-}
-
-// Reads the bytes that a word spells to the front of a buffer; a word in none of these forms, or of more bytes than there is room for, changes nothing.
-pub fn read_bytes(word: &[u8], out: &mut [u8]) -> Spelled
+// Reads the bytes that a word spells to the front of a buffer, and gives how many; a word in none of these forms, or of more bytes than there is room for, changes nothing.
+pub fn read_bytes(word: &[u8], out: &mut [u8]) -> Option<usize>
     ensures { ReadIs (Spells word.now) out.old out.new result }
 {
-    if is_none(word) {
-        return Spelled::Length(0);
+    match word {
+        b"-" => Some(0),
+        [_, _, b'*', _, ..] => read_times(word, out),
+        _ => read_pairs(word, out),
     }
-    if is_repeat(word) {
-        return read_times(word, out);
-    }
-    read_pairs(word, out)
-}
-
-fn is_none(word: &[u8]) -> bool
-    ensures { Says (word.now ≡ 45 ∷ []) result }
-{
-    if word.len() == 1 {
-        return word[0] == b'-';
-    }
-    false
-}
-
-fn is_repeat(word: &[u8]) -> bool
-    ensures { Says (Starred word.now) result }
-{
-    if 3 < word.len() {
-        return word[2] == b'*';
-    }
-    false
 }
 
 // Two digits for each byte.
-fn read_pairs(word: &[u8], out: &mut [u8]) -> Spelled
+fn read_pairs(word: &[u8], out: &mut [u8]) -> Option<usize>
     ensures { ReadIs (AsPairs word.now) out.old out.new result }
 {
     let n = word.len() / 2;
     if n == 0 {
-        return Spelled::Nothing;
+        return None;
     }
     if word.len() != 2 * n {
-        return Spelled::Nothing;
+        return None;
     }
     if out.len() < n {
-        return Spelled::Nothing;
+        return None;
     }
     if !all_digits(word) {
-        return Spelled::Nothing;
+        return None;
     }
     lay(word, n, out);
-    Spelled::Length(n)
+    Some(n)
 }
 
 fn all_digits(word: &[u8]) -> bool
     ensures { Says (AllDigits word.now) result }
 {
-    let mut i = 0;
-    while i < word.len() {
-        if digit(word[i]) == 16 {
-            return false;
-        }
-        i += 1;
-    }
-    true
+    word.iter().all(|b| digit(*b).is_some())
 }
 
 // Lays the n bytes of a word of digits to the front of a buffer.
@@ -84,62 +50,43 @@ fn lay(word: &[u8], n: usize, out: &mut [u8])
     ensures bytes { hex_text (take n out.new) ≡ word.now }
     ensures rest { drop n out.new ≡ drop n out.old }
 {
-    let mut i = 0;
-    while i < n {
-        out[i] = pair(word[2 * i], word[2 * i + 1]);
-        i += 1;
+    for i in 0..n {
+        out[i] = pair(word[2 * i], word[2 * i + 1]).unwrap();
     }
 }
 
 // One byte so many times; the word has its `*`.
-fn read_times(word: &[u8], out: &mut [u8]) -> Spelled
+fn read_times(word: &[u8], out: &mut [u8]) -> Option<usize>
     requires { Starred word.now }
     ensures { ReadIs (AsTimes word.now) out.old out.new result }
 {
-    if !all_digits(&word[0..2]) {
-        return Spelled::Nothing;
-    }
-    let Number::Value(times) = read_number(&word[3..]) else {
-        return Spelled::Nothing;
-    };
-    let n = times as usize;
+    let b = pair(word[0], word[1])?;
+    let n = read_number(&word[3..])? as usize;
     if n == 0 {
-        return Spelled::Nothing;
+        return None;
     }
     if out.len() < n {
-        return Spelled::Nothing;
+        return None;
     }
-    fill(pair(word[0], word[1]), &mut out[0..n]);
-    Spelled::Length(n)
-}
-
-// Lays one byte over all of a buffer.
-fn fill(b: u8, out: &mut [u8])
-    ensures { out.new ≡ replicate (length out.old) b }
-{
-    let mut i = 0;
-    while i < out.len() {
-        out[i] = b;
-        i += 1;
-    }
+    out[..n].fill(b);
+    Some(n)
 }
 
 // The byte of two digits.
-fn pair(high: u8, low: u8) -> u8
-    requires { IsDigit high × IsDigit low }
-    ensures { hex_text (result ∷ []) ≡ high ∷ low ∷ [] }
+fn pair(high: u8, low: u8) -> Option<u8>
+    ensures { PairIs high low result }
 {
-    digit(high) * 16 + digit(low)
+    Some(digit(high)? * 16 + digit(low)?)
 }
 
-// What a byte stands for as a hexadecimal digit; 16 where it is none.
-fn digit(b: u8) -> u8
+// What a byte stands for as a hexadecimal digit.
+fn digit(b: u8) -> Option<u8>
     ensures { DigitIs b result }
 {
     match b {
-        b'0'..=b'9' => b - b'0',
-        b'a'..=b'f' => b - b'a' + 10,
-        _ => 16,
+        b'0'..=b'9' => Some(b - b'0'),
+        b'a'..=b'f' => Some(b - b'a' + 10),
+        _ => None,
     }
 }
 
@@ -148,7 +95,7 @@ pub fn write_bytes(bytes: &[u8], out: &mut [u8]) -> usize
     ensures length { result ≡ put_length (plain_word bytes.now) out.old }
     ensures word { out.new ≡ put_front (plain_word bytes.now) out.old }
 {
-    if bytes.len() == 0 {
+    if bytes.is_empty() {
         return write_none(out);
     }
     if out.len() / 2 < bytes.len() {
@@ -162,7 +109,7 @@ fn write_none(out: &mut [u8]) -> usize
     ensures length { result ≡ put_length (45 ∷ []) out.old }
     ensures word { out.new ≡ put_front (45 ∷ []) out.old }
 {
-    if out.len() == 0 {
+    if out.is_empty() {
         return 0;
     }
     out[0] = b'-';
@@ -174,11 +121,9 @@ fn write_pairs(bytes: &[u8], out: &mut [u8])
     requires { 2 * length bytes.now ≤ length out.old }
     ensures { out.new ≡ hex_text bytes.now ++ drop (2 * length bytes.now) out.old }
 {
-    let mut i = 0;
-    while i < bytes.len() {
-        out[2 * i] = digit_of(bytes[i] / 16);
-        out[2 * i + 1] = digit_of(bytes[i] % 16);
-        i += 1;
+    for (i, b) in bytes.iter().enumerate() {
+        out[2 * i] = digit_of(*b / 16);
+        out[2 * i + 1] = digit_of(*b % 16);
     }
 }
 

@@ -1,7 +1,7 @@
 // Words decoded: numbers and bytes.
 use crate::room::BYTES_MOST;
-use decimal::{Number, read_number};
-use spelled::{Spelled, read_bytes};
+use decimal::read_number;
+use spelled::read_bytes;
 
 // What a word says, and whether it was right.
 #[derive(Clone, Copy)]
@@ -12,7 +12,7 @@ pub(crate) struct Value {
 
 // A number of at most so much.
 pub(crate) fn number(word: &[u8], most: usize) -> Value {
-    let Number::Value(n) = read_number(word) else {
+    let Some(n) = read_number(word) else {
         return Value {
             right: false,
             value: 0,
@@ -37,7 +37,7 @@ pub(crate) fn lay(word: &[u8], memory: &mut [u8], from: usize) -> Value {
     if memory.len() - BYTES_MOST < from {
         return wrong;
     }
-    let Spelled::Length(n) = read_bytes(word, &mut memory[from..from + BYTES_MOST]) else {
+    let Some(n) = read_bytes(word, &mut memory[from..from + BYTES_MOST]) else {
         return wrong;
     };
     Value {

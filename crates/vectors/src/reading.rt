@@ -3,39 +3,26 @@ use crate::arguments::Arguments;
 use crate::parts::part;
 use crate::tell;
 use fields::field_from;
-use lists::{Reading, read_list};
+use lists::{Job, read_list};
 use std::io;
 
 // TEXT: what it says as a list, or its first bad line; where it is quiet, the first word alone.
 pub(crate) fn list(rt: &impl Print, a: Arguments, memory: &[u8], is_quiet: bool) -> io::Result<()> {
-    let reading = read_list(part(memory, 0, a.words.first));
-    match reading {
-        Reading::Taken {
-            job,
-            revision,
-            segments,
-            body,
-        } => tell_list(rt, job, revision, segments, body, is_quiet),
-        Reading::Refused(line) => tell_bad(rt, line, is_quiet),
+    match read_list(part(memory, 0, a.words.first)) {
+        Ok(says) => tell_list(rt, says, is_quiet),
+        Err(bad) => tell_bad(rt, bad.line, is_quiet),
     }
 }
 
-fn tell_list(
-    rt: &impl Print,
-    job: u64,
-    revision: u64,
-    segments: u64,
-    body: u64,
-    is_quiet: bool,
-) -> io::Result<()> {
+fn tell_list(rt: &impl Print, says: Job, is_quiet: bool) -> io::Result<()> {
     if is_quiet {
         return tell::answer(rt, 0);
     }
     tell::byte(rt, b'0')?;
-    tell::next_number(rt, job)?;
-    tell::next_number(rt, revision)?;
-    tell::next_number(rt, segments)?;
-    tell::next_number(rt, body)?;
+    tell::next_number(rt, says.job)?;
+    tell::next_number(rt, says.revision)?;
+    tell::next_number(rt, says.segments)?;
+    tell::next_number(rt, says.body)?;
     tell::byte(rt, b'\n')
 }
 

@@ -5,7 +5,7 @@ use Rattle.lists.proofs.Turns.{Read}
 use Rattle.lists.proofs.read_list.Given as goal
 
 abbrev pub invariant-loop-at : goal.invariant-loop-at
-invariant-loop-at l = Read l.text l.front l.job l.revision l.body l.lines l.at
+invariant-loop-at l = Read l.text l.front l.first.job l.first.revision l.body l.lines l.at
 
 abbrev pub decreases-loop-at : goal.decreases-loop-at
 decreases-loop-at l = length l.text - l.at

@@ -15,16 +15,16 @@ use Rattle.lists.proofs.write_behind.Goals as goal
 
 pub loop-i-init : goal.loop-i-init
 unfolding lines_of
-loop-i-init c = (c.count-lines.ensures, omega arith, refl, refl, sym (laid_none c.args.out.now 0))
+loop-i-init c = (refl, sym (laid_none c.args.out.now 0))
 
 pub line-at-requires : goal.line-at-requires
 unfolding lines_behind
 line-at-requires c =
     let l = c.loop-i in
     let front = c.args.front.now in
-    let room = line_room (line front c.args.body) l.i (count_of c.args.body) (omega (arith, l.invariant.0, c.loop-i-test.true)) in
+    let room = line_room (line front c.args.body) l.i (count_of c.args.body) (omega (arith, c.count-i-end.ensures, c.loop-i-test.true)) in
     let same = ap (λ (n : ℕ). length (front ++ rest_text l.i n)) c.segment_length.ensures in
-    omega (arith, l.invariant.2, l.invariant.3, c.requires)
+    omega (arith, l.invariant.0, l.auto.out, c.requires)
 
 pub loop-i-preserved : goal.loop-i-preserved
 unfolding lines_behind
@@ -34,21 +34,14 @@ loop-i-preserved c =
     let e = c.line-at.ensures in
     let long = c.segment_length.ensures in
     let same = ap (λ (n : ℕ). length (front ++ rest_text l.i n)) long in
-    let next = length_next (line front c.args.body) l.i in
-    let below = c.loop-i-test.true in (
-      l.invariant.0,
-      omega arith,
-      omega (arith, e.place, l.invariant.2),
-      c.line-at.auto.out ∙ l.invariant.3,
-      more_laid (line front c.args.body) l.i (count_of c.args.body) l.at c.args.out.now (omega (arith, l.invariant.0)) c.requires l.invariant.2 l.invariant.4
+    let next = length_next (line front c.args.body) l.i in (
+      omega (arith, e.place, l.invariant.0),
+      more_laid (line front c.args.body) l.i (count_of c.args.body) l.at c.args.out.now (omega (arith, c.count-i-end.ensures, c.loop-i-test.true)) c.requires l.invariant.0 l.invariant.1
           (e.text ∙ ap (λ (n : ℕ). laid l.out l.at (front ++ rest_text l.i n)) long),
     )
-
-pub shape_of-out : goal.shape_of-out
-shape_of-out c = c.loop-i.invariant.3
 
 pub returns : goal.returns
 unfolding lines_behind
 returns c =
     let l = c.loop-i in
-    all_laid (line c.args.front.now c.args.body) l.i (count_of c.args.body) c.args.out.now (omega (arith, l.invariant.0, l.invariant.1, c.loop-i-test.false)) c.requires l.invariant.4
+    all_laid (line c.args.front.now c.args.body) l.i (count_of c.args.body) c.args.out.now (omega (arith, c.count-i-end.ensures, l.auto.i-end, c.loop-i-test.false)) c.requires l.invariant.1

@@ -1,10 +1,9 @@
 -- `lists::write_behind`: before the turn i the first i lines are laid.
 use mathlib.Core.Path.{◌≡◌}
 use mathlib.Core.List.{List, ◌++◌}
-use Prim.Native.Nat.{ℕ, ◌-◌, ◌≤◌}
+use Prim.Native.Nat.{ℕ}
 use lib.ListN.{length}
 use Rattle.decimal.specs.Laid.{laid}
-use Rattle.cutting.specs.Cutting.{count_of}
 use Rattle.lists.specs.Lists.{segment_length, lines_of}
 use Rattle.lists.specs.Pieces.{rest_text}
 use Rattle.lists.proofs.write_behind.Given as goal
@@ -18,7 +17,4 @@ upto front body k = lines_of (line front body) k
 
 abbrev pub invariant-loop-i : goal.invariant-loop-i
 invariant-loop-i l =
-    (l.lines ≡ count_of l.body) × (l.i ≤ l.lines) × (l.at ≡ length (upto l.front l.body l.i)) × (length l.out ≡ length l.initial.out) × (l.out ≡ laid l.initial.out 0 (upto l.front l.body l.i))
-
-abbrev pub decreases-loop-i : goal.decreases-loop-i
-decreases-loop-i l = l.lines - l.i
+    (l.at ≡ length (upto l.front l.body l.i)) × (l.out ≡ laid l.initial.out 0 (upto l.front l.body l.i))

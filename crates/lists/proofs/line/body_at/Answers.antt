@@ -1,16 +1,11 @@
 -- `lists::line::body_at`: the six bytes of a full segment's length, or a number as any other.
-use mathlib.Core.Path.{◌≡◌, sym, ap, ◌∙◌}
-use Prim.Native.Nat.{ℕ, ◌+◌, ◌-◌}
+use mathlib.Core.Path.{refl}
+use Prim.Native.Nat.{◌-◌}
 use native.Mathlib.Omega.{arith}
-use lib.ListN.{take, drop}
-use Rattle.norx.proofs.Opening.{same_true}
-use Rattle.lists.proofs.Parts.{full_is, full_text}
+use lib.ListN.{length, drop, length-drop}
+use lib.Seq.{length-take-le}
+use Rattle.lists.proofs.Parts.{full_is}
 use Rattle.lists.proofs.line.body_at.Goals as goal
 
-pub returns-then-same : goal.returns-then-same
-returns-then-same c =
-    let x = c.args in
-    let t = x.text.now in
-    let six : x.at + 6 - x.at ≡ 6 = omega arith in
-    let e = same_true _ _ (sym c.same.ensures ∙ c.if-same.true) in
-    full_is t x.at (ap (λ (n : ℕ). take n (drop x.at t)) (sym six) ∙ e ∙ sym full_text) (omega (arith, c.if-text-at-ge6.true, c.requires))
+pub returns-then-starts_with : goal.returns-then-starts_with
+returns-then-starts_with c = let same = c.if-starts_with.ensures in full_is c.args.text.now c.args.at (omega (arith, same.bound refl, length-take-le (length c.args.text.now - c.args.at) (drop c.args.at c.args.text.now) (omega (arith, length-drop c.args.at c.args.text.now)))) same.value

@@ -1,8 +1,8 @@
 -- `lists::put::text`: a copy is the text laid.
-use native.Mathlib.Omega.{arith}
 use mathlib.Core.Path.{refl, ap, ◌∙◌}
 use mathlib.Core.List.{List, ◌++◌}
 use Prim.Native.Nat.{ℕ, ◌-◌}
+use native.Mathlib.Omega.{arith}
 use lib.ListN.{length, take, drop}
 use Rattle.lists.proofs.Writing.{text_laid}
 use Rattle.lists.proofs.put.text.Goals as goal

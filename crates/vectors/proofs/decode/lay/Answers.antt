@@ -8,6 +8,6 @@ use Rattle.vectors.proofs.decode.lay.Goals as goal
 pub overflow_add-result : goal.overflow_add-result
 overflow_add-result c =
     let x = c.args in
-    let laid = rw c.in-Length.is at c.read_bytes.ensures in
+    let laid = c.in-Some.ensures in
     let rest = length-drop x.from x.memory.now in
     omega (arith, laid.3, length-take-le (x.from + 65632 - x.from) (drop x.from x.memory.now) (omega arith))
