@@ -1,7 +1,7 @@
 // What a session accepted, beside the honest job: the attack's own record, read from no session.
-use crate::job::{BODY, NOTE, TRAILER, part};
+use crate::job::{NOTE, TRAILER};
+use crate::message::{BODY, Message};
 use places::Part;
-use texts::same;
 
 // The bytes of each part, and whether they and the nonce are the honest job's so far.
 #[derive(Clone, Copy)]
@@ -23,39 +23,32 @@ impl Accepted {
         }
     }
 
-    // With a piece more; text is the honest ciphertext.
-    pub(crate) fn more(self, piece_of: Part, bytes: &[u8], text: &[u8]) -> Accepted {
-        let mut next = self;
-        match piece_of {
+    // Takes a piece more.
+    pub(crate) fn take(&mut self, part: Part, bytes: &[u8], own: &Message) {
+        let n = bytes.len();
+        match part {
             Part::Note => {
-                next.honest = self.honest & stands(&NOTE, self.note, bytes);
-                next.note = sum(self.note, bytes.len());
+                self.honest &= stands(&NOTE, self.note, bytes);
+                self.note = self.note.saturating_add(n);
             }
             Part::Body => {
-                next.honest = self.honest & stands(text, self.body, bytes);
-                next.body = sum(self.body, bytes.len());
+                self.honest &= stands(&own.text, self.body, bytes);
+                self.body = self.body.saturating_add(n);
             }
             Part::Trailer => {
-                next.honest = self.honest & stands(&TRAILER, self.trailer, bytes);
-                next.trailer = sum(self.trailer, bytes.len());
+                self.honest &= stands(&TRAILER, self.trailer, bytes);
+                self.trailer = self.trailer.saturating_add(n);
             }
         }
-        next
     }
 
-    // Whether it is the whole honest job, with its note of 18 bytes and its trailer of 15.
-    pub(crate) fn whole(self) -> bool {
-        self.honest & (self.note == 18) & (self.body == BODY) & (self.trailer == 15)
+    // Whether it is the whole honest job.
+    pub(crate) fn whole(&self) -> bool {
+        self.honest && self.note == NOTE.len() && self.body == BODY && self.trailer == TRAILER.len()
     }
 }
 
 // Whether bytes stand in a text at a place.
 fn stands(text: &[u8], at: usize, bytes: &[u8]) -> bool {
-    same(part(text, at, bytes.len()), bytes)
-}
-
-// The sum, or the largest number where it is larger.
-fn sum(a: usize, b: usize) -> usize {
-    let room = 0xffffffffffffffff - a;
-    if b <= room { a + b } else { 0xffffffffffffffff }
+    text.get(at..).is_some_and(|rest| rest.starts_with(bytes))
 }

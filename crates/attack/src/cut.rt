@@ -1,39 +1,25 @@
-// A long job of an edition, cut into two segments, and what it is sealed to: a text of its nonce, its body and both segments.
-ghost use Rattle.std.specs.Prelude.{◌≡◌, ◌≤◌, length};
-
-use crate::job::{KEY, NOTE, fill, first_bytes, lay, part};
+// A long job of an edition, cut into two segments, and what these are sealed to.
+use crate::job::{KEY, NOTE, fill, part};
 use places::terms::Terms;
 use rules::{SEGMENT, w32, w64};
+use std::alloc::{AllocError, Global};
 
 // The bytes of the last segment.
 const REST: usize = 100;
 
-// Where each part of a text begins, at either width.
-const BODY_AT: usize = w64::JOB_NONCE;
-
-const FIRST_AT: usize = BODY_AT + SEGMENT + REST;
-
-const LAST_AT: usize = FIRST_AT + SEGMENT + w64::TAG;
-
-const TEXT: usize = LAST_AT + REST + w64::TAG;
-
-// Room for a text, and for a body; a contract gives the length, which lending an array as a slice needs.
-pub(crate) fn room() -> [u8; TEXT]
-    ensures { 131360 ≡ length result }
-{
-    [0; TEXT]
-}
-
-fn body_room() -> [u8; SEGMENT + REST]
-    ensures { 65636 ≡ length result }
-{
-    [0; SEGMENT + REST]
+// What a receiver has to know of a job, its body, and its segments as they are sealed.
+#[derive(Drop)]
+pub(crate) struct Job<'a> {
+    pub width: u32,
+    pub terms: Terms,
+    pub nonce: &'a [u8],
+    pub body: Vec<u8>,
+    pub first: Vec<u8>,
+    pub last: Vec<u8>,
 }
 
 // The bytes of a key, which a tag has too.
-pub(crate) fn row(width: u32) -> usize
-    ensures { result ≤ 32 }
-{
+pub(crate) fn row(width: u32) -> usize {
     if width == 64 { w64::ROW } else { w32::ROW }
 }
 
@@ -46,70 +32,63 @@ pub(crate) fn nonce_length(width: u32) -> usize {
     }
 }
 
-// Seals both segments of a job whose body is one line again and again.
-pub(crate) fn seal(width: u32, terms: Terms, nonce: &[u8], line: &[u8; 15], text: &mut [u8]) {
-    let mut body = body_room();
-    fill(&mut body, line);
-    seal_body(width, terms, nonce, &body, text);
+pub(crate) fn key(width: u32) -> &'static [u8] {
+    part(&KEY, 0, row(width))
 }
 
-fn seal_body(width: u32, terms: Terms, nonce: &[u8], body: &[u8], text: &mut [u8]) {
-    let first = part(body, 0, SEGMENT);
-    let last = part(body, SEGMENT, REST);
-    lay(text, 0, nonce);
-    lay(text, BODY_AT, body);
-    lay_sealed(width, terms, nonce, 0, first, text, FIRST_AT);
-    lay_sealed(width, terms, nonce, 1, last, text, LAST_AT);
+impl<'a> Job<'a> {
+    // Seals both segments of a job whose body is one line again and again.
+    pub(crate) fn sealed(
+        alloc: Global,
+        width: u32,
+        terms: Terms,
+        nonce: &'a [u8],
+        line: &[u8; 15],
+    ) -> Result<Job<'a>, AllocError> {
+        let mut body = vec![in alloc; 0; SEGMENT + REST]?;
+        fill(&mut body, line);
+        let first = part(&body, 0, SEGMENT);
+        let last = part(&body, SEGMENT, REST);
+        Ok(Job {
+            width,
+            terms,
+            nonce,
+            first: sealed_segment(alloc, width, terms, nonce, 0, first)?,
+            last: sealed_segment(alloc, width, terms, nonce, 1, last)?,
+            body,
+        })
+    }
+
+    // What segment i says; nothing where there is none.
+    pub(crate) fn message(&self, i: u8) -> &[u8] {
+        match i {
+            0 => part(&self.body, 0, SEGMENT),
+            1 => part(&self.body, SEGMENT, REST),
+            _ => &[],
+        }
+    }
 }
 
-// Seals a segment into a text, from a place on.
-fn lay_sealed(
+fn sealed_segment(
+    alloc: Global,
     width: u32,
     terms: Terms,
     nonce: &[u8],
     index: u64,
     body: &[u8],
-    text: &mut [u8],
-    at: usize,
-) {
-    if at <= text.len() {
-        seal_segment(width, terms, nonce, index, body, &mut text[at..]);
-    }
-}
-
-fn seal_segment(width: u32, terms: Terms, nonce: &[u8], index: u64, body: &[u8], out: &mut [u8]) {
-    let n = row(width);
+) -> Result<Vec<u8>, AllocError> {
+    let mut out = vec![in alloc; 0; body.len().saturating_add(row(width))]?;
+    let key = key(width);
     segments::seal(
         width,
-        part(&KEY, 0, n),
+        key,
         nonce,
         terms,
         &NOTE,
         index,
         index == 1,
         body,
-        first_bytes(out, body.len() + n),
+        &mut out,
     );
-}
-
-pub(crate) fn nonce(text: &[u8], width: u32) -> &[u8] {
-    part(text, 0, nonce_length(width))
-}
-
-// The first segment and the last one, as they are sealed.
-pub(crate) fn first(text: &[u8], width: u32) -> &[u8] {
-    part(text, FIRST_AT, SEGMENT + row(width))
-}
-
-pub(crate) fn last(text: &[u8], width: u32) -> &[u8] {
-    part(text, LAST_AT, REST + row(width))
-}
-
-// What segment i says; nothing where there is none.
-pub(crate) fn message(text: &[u8], i: u8) -> &[u8] {
-    match i {
-        0 => part(text, BODY_AT, SEGMENT),
-        1 => part(text, BODY_AT + SEGMENT, REST),
-        _ => part(text, 0, 0),
-    }
+    Ok(out)
 }

@@ -1,15 +1,16 @@
 // Which two editions are mixed.
 use places::terms::Edition;
 
-// The edition that a session is for, and the other one.
+// The edition that a session is for, the other one, and what both are called.
 #[derive(Clone, Copy)]
 pub(crate) struct Editions {
+    pub name: &'static str,
     pub own: Edition,
     pub other: Edition,
 }
 
-// Two revisions of one job.
 pub(crate) const REVISIONS: Editions = Editions {
+    name: "revisions 11 and 12 of job 7",
     own: Edition {
         job: 7,
         revision: 11,
@@ -20,8 +21,8 @@ pub(crate) const REVISIONS: Editions = Editions {
     },
 };
 
-// Two jobs of one revision.
 pub(crate) const JOBS: Editions = Editions {
+    name: "jobs 7 and 8 in revision 3",
     own: Edition {
         job: 7,
         revision: 3,
@@ -31,16 +32,3 @@ pub(crate) const JOBS: Editions = Editions {
         revision: 3,
     },
 };
-
-impl Editions {
-    pub(crate) fn turned(self) -> Editions {
-        let own = self.other;
-        let other = self.own;
-        Editions { own, other }
-    }
-
-    // What a piece or a close says that it is of.
-    pub(crate) fn said(self, foreign: bool) -> Edition {
-        if foreign { self.other } else { self.own }
-    }
-}

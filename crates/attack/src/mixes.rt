@@ -1,89 +1,65 @@
 // Long jobs of two editions, each sealed in two segments, which are mixed and offered to receivers.
-use crate::cut::{first, last, nonce_length, room, seal};
+use crate::cut::{Job, nonce_length};
 use crate::editions::Editions;
 use crate::job::{LINE, NONCE, OTHER_LINE, OTHER_NONCE, part};
-use crate::served::{Served, offered, started, verdict};
+use crate::served::Served;
 use crate::tally::Tally;
 use places::terms::{Edition, Terms};
+use std::alloc::{AllocError, Global};
 use std::io;
-use texts::same;
 
 // Offers every job at a width, prints how they went, and gives them all together.
-pub(crate) fn attack(rt: &impl Print, width: u32, e: Editions, name: &str) -> io::Result<Tally> {
-    let t = either_nonce(width, 4, e).plus(either_nonce(width, 6, e));
-    t.print(rt, name)?;
-    Ok(t)
+pub(crate) fn attack(
+    rt: &(impl Print + AllocGlobal),
+    width: u32,
+    e: Editions,
+) -> io::Result<Tally> {
+    let alloc = rt.alloc();
+    let tally = either_nonce(alloc, width, 4, e)? + either_nonce(alloc, width, 6, e)?;
+    println!(rt; "  {}: {tally}", e.name)?;
+    Ok(tally)
 }
 
 // The two editions with a nonce for each, and with one for both.
-fn either_nonce(width: u32, rounds: u32, e: Editions) -> Tally {
+fn either_nonce(alloc: Global, width: u32, rounds: u32, e: Editions) -> Result<Tally, AllocError> {
     let n = nonce_length(width);
     let nonce = part(&NONCE, 0, n);
-    let other = part(&OTHER_NONCE, 0, n);
-    sealed(width, rounds, e, nonce, other).plus(sealed(width, rounds, e, nonce, nonce))
-}
-
-// Both editions, sealed and then offered to receivers under each nonce.
-fn sealed(width: u32, rounds: u32, e: Editions, nonce: &[u8], other_nonce: &[u8]) -> Tally {
-    let mut own = room();
-    let mut other = room();
-    seal(width, terms(rounds, e.own), nonce, &LINE, &mut own);
-    seal(
+    let terms = |edition: Edition| Terms { rounds, edition };
+    let own = Job::sealed(alloc, width, terms(e.own), nonce, &LINE)?;
+    let apart = Job::sealed(
+        alloc,
         width,
-        terms(rounds, e.other),
-        other_nonce,
+        terms(e.other),
+        part(&OTHER_NONCE, 0, n),
         &OTHER_LINE,
-        &mut other,
-    );
-    let t = under(nonce, width, rounds, e, &own, &other);
-    if same(nonce, other_nonce) {
-        t
-    } else {
-        t.plus(under(other_nonce, width, rounds, e, &own, &other))
-    }
-}
-
-fn terms(rounds: u32, edition: Edition) -> Terms {
-    Terms { rounds, edition }
+    )?;
+    let shared = Job::sealed(alloc, width, terms(e.other), nonce, &OTHER_LINE)?;
+    Ok(under(nonce, &own, &apart) + under(apart.nonce, &own, &apart) + under(nonce, &own, &shared))
 }
 
 // A receiver for each edition, started with that nonce.
-fn under(given: &[u8], width: u32, rounds: u32, e: Editions, own: &[u8], other: &[u8]) -> Tally {
-    let for_own = started(width, terms(rounds, e.own), given, own);
-    let for_other = started(width, terms(rounds, e.other), given, other);
-    jobs(for_own, width, own, other).plus(jobs(for_other, width, other, own))
+fn under(nonce: &[u8], own: &Job, other: &Job) -> Tally {
+    jobs(Served::started(own, nonce), other) + jobs(Served::started(other, nonce), own)
 }
 
 // Every two of the eight offers, one after the other. A receiver is a value: from what it is after the first offer, it goes on with each second one.
-fn jobs(s: Served, width: u32, own: &[u8], other: &[u8]) -> Tally {
-    let mut t = Tally::none();
-    for k in 0..8 {
-        t = t.plus(goes_on(offer(s, k, width, own, other), width, own, other));
-    }
-    t
+fn jobs(s: Served, other: &Job) -> Tally {
+    each_offer(s, other, |s| each_offer(s, other, twice_judged))
 }
 
-// Each second offer: as a job by itself, and with the own last segment behind it.
-fn goes_on(s: Served, width: u32, own: &[u8], other: &[u8]) -> Tally {
-    let mut t = Tally::none();
-    for k in 0..8 {
-        t = t.plus(twice_judged(offer(s, k, width, own, other), width, own));
+// The first segment or the last one, of the one edition or of the other, called the last or not: what comes of each.
+fn each_offer<F: Fn(Served) -> Tally>(s: Served, other: &Job, judged: F) -> Tally
+    requires { F.IsAlwaysCallable judged }
+{
+    let own = s.own;
+    let mut tally = Tally::default();
+    for sealed in [&own.first, &own.last, &other.first, &other.last] {
+        tally = tally + judged(s.offered(false, sealed)) + judged(s.offered(true, sealed));
     }
-    t
+    tally
 }
 
-fn twice_judged(s: Served, width: u32, own: &[u8]) -> Tally {
-    let more = offered(s, width, true, last(own, width), own);
-    verdict(s).plus(verdict(more))
-}
-
-// The first segment or the last one, of the one edition or of the other, called the last or not.
-fn offer(s: Served, k: u8, width: u32, own: &[u8], other: &[u8]) -> Served {
-    let called_last = k % 2 == 1;
-    match k / 2 {
-        0 => offered(s, width, called_last, first(own, width), own),
-        1 => offered(s, width, called_last, last(own, width), own),
-        2 => offered(s, width, called_last, first(other, width), own),
-        _ => offered(s, width, called_last, last(other, width), own),
-    }
+// As a job by itself, and with the own last segment behind it.
+fn twice_judged(s: Served) -> Tally {
+    s.verdict() + s.offered(true, &s.own.last).verdict()
 }

@@ -1,5 +1,5 @@
 // The pieces that each way offers.
-use crate::job::BODY;
+use crate::message::BODY;
 use crate::order::{dropped, pair, repeated, single, swapped};
 use crate::ways::Way;
 use places::Part;
@@ -16,7 +16,7 @@ pub(crate) struct Offer {
 }
 
 // The p'th piece of the m'th job of a way, and behind the last piece one of no bytes; had is how much of the body the session has accepted, and x a random number.
-pub(crate) fn offered(way: Way, m: u32, p: u8, had: usize, x: u64) -> Offer {
+pub(crate) fn offered(way: Way, m: u32, p: u32, had: usize, x: u64) -> Offer {
     match way {
         Way::Cut => cut(m, p),
         Way::Swapped => swapped(pair(m), p, had),
@@ -31,11 +31,11 @@ pub(crate) fn offered(way: Way, m: u32, p: u8, had: usize, x: u64) -> Offer {
 pub(crate) fn body(foreign_bytes: bool, from: usize, n: usize, offset: usize) -> Offer {
     Offer {
         part: Part::Body,
-        foreign_bytes: foreign_bytes,
-        from: from,
-        n: n,
+        foreign_bytes,
+        from,
+        n,
         foreign_label: false,
-        offset: offset,
+        offset,
     }
 }
 
@@ -45,7 +45,7 @@ fn nothing() -> Offer {
 }
 
 // The first k bytes of one edition and the rest of the other, for each k from 1 to all 300 of them.
-fn cut(m: u32, p: u8) -> Offer {
+fn cut(m: u32, p: u32) -> Offer {
     let k = (m / 4 % 300 + 1) as usize;
     let foreign_first = m / 2 % 2 == 1;
     match p {
@@ -56,29 +56,22 @@ fn cut(m: u32, p: u8) -> Offer {
 }
 
 // The same for the honest job; every other time with three retries between.
-fn honest(m: u32, p: u8) -> Offer {
+fn honest(m: u32, p: u32) -> Offer {
     let k = (m / 2 % 300 + 1) as usize;
-    if p == 0 {
-        body(false, 0, k, 0)
-    } else if p == 4 {
-        body(false, k, BODY, k)
-    } else if m % 2 == 1 {
-        retry(k, p)
-    } else {
-        nothing()
+    match p {
+        0 => body(false, 0, k, 0),
+        4 => body(false, k, BODY, k),
+        _ if m % 2 == 1 => retry(k, p),
+        _ => nothing(),
     }
 }
 
 // Retries that must be refused: under the other edition, from an old offset, and of a part that has ended.
-fn retry(k: usize, p: u8) -> Offer {
+fn retry(k: usize, p: u32) -> Offer {
     match p {
         1 => Offer {
-            part: Part::Body,
-            foreign_bytes: true,
-            from: k,
-            n: BODY,
             foreign_label: true,
-            offset: k,
+            ..body(true, k, BODY, k)
         },
         2 => body(false, 0, k, 0),
         3 => whole(Part::Note),
@@ -89,23 +82,17 @@ fn retry(k: usize, p: u8) -> Offer {
 // A whole part, as it is in the honest job.
 fn whole(part: Part) -> Offer {
     Offer {
-        part: part,
-        foreign_bytes: false,
-        from: 0,
-        n: BODY,
-        foreign_label: false,
-        offset: 0,
+        part,
+        ..body(false, 0, BODY, 0)
     }
 }
 
 // Six pieces at random, and the rest of the honest ciphertext.
-fn random(p: u8, had: usize, x: u64) -> Offer {
-    if p < 6 {
-        random_piece(had, x)
-    } else if p == 6 {
-        body(false, had, BODY, had)
-    } else {
-        nothing()
+fn random(p: u32, had: usize, x: u64) -> Offer {
+    match p {
+        0..=5 => random_piece(had, x),
+        6 => body(false, had, BODY, had),
+        _ => nothing(),
     }
 }
 

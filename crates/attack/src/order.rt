@@ -9,97 +9,57 @@ pub(crate) struct Touched {
     pub j: u32,
 }
 
+impl Touched {
+    fn of(size: u32, i: u32, j: u32) -> Touched {
+        Touched { size, i, j }
+    }
+}
+
 // Every two pieces of each length, in both orders, and each piece with itself, which leaves the job honest.
 pub(crate) fn pair(m: u32) -> Touched {
-    if m < 225 {
-        Touched {
-            size: 20,
-            i: m / 15,
-            j: m % 15,
-        }
-    } else if m < 274 {
-        Touched {
-            size: 48,
-            i: (m - 225) / 7,
-            j: (m - 225) % 7,
-        }
-    } else {
-        Touched {
-            size: 96,
-            i: (m - 274) / 4,
-            j: (m - 274) % 4,
-        }
+    match m {
+        0..=224 => Touched::of(20, m / 15, m % 15),
+        225..=273 => Touched::of(48, (m - 225) / 7, (m - 225) % 7),
+        _ => Touched::of(96, (m - 274) / 4, (m - 274) % 4),
     }
 }
 
 // Every piece of each length.
 pub(crate) fn single(m: u32) -> Touched {
-    if m < 15 {
-        Touched {
-            size: 20,
-            i: m,
-            j: m,
-        }
-    } else if m < 22 {
-        Touched {
-            size: 48,
-            i: m - 15,
-            j: m - 15,
-        }
-    } else {
-        Touched {
-            size: 96,
-            i: m - 22,
-            j: m - 22,
-        }
+    match m {
+        0..=14 => Touched::of(20, m, m),
+        15..=21 => Touched::of(48, m - 15, m - 15),
+        _ => Touched::of(96, m - 22, m - 22),
     }
 }
 
 // The pieces i and j in each other's place: with the offsets of their new places where i is first, else with their own.
-pub(crate) fn swapped(t: Touched, p: u8, had: usize) -> Offer {
-    let place = p as u32;
-    let piece = if place == t.i {
+pub(crate) fn swapped(t: Touched, p: u32, had: usize) -> Offer {
+    let piece = if p == t.i {
         t.j
-    } else if place == t.j {
+    } else if p == t.j {
         t.i
     } else {
-        place
+        p
     };
     piece_offer(t.size, piece, had, t.i < t.j)
 }
 
 // The piece i twice.
-pub(crate) fn repeated(t: Touched, p: u8, had: usize, relabelled: bool) -> Offer {
-    let place = p as u32;
-    if place <= t.i {
-        piece_offer(t.size, place, had, relabelled)
-    } else {
-        piece_offer(t.size, place - 1, had, relabelled)
-    }
+pub(crate) fn repeated(t: Touched, p: u32, had: usize, relabelled: bool) -> Offer {
+    let piece = if p <= t.i { p } else { p - 1 };
+    piece_offer(t.size, piece, had, relabelled)
 }
 
 // All pieces but i.
-pub(crate) fn dropped(t: Touched, p: u8, had: usize, relabelled: bool) -> Offer {
-    let place = p as u32;
-    if place < t.i {
-        piece_offer(t.size, place, had, relabelled)
-    } else {
-        piece_offer(t.size, place + 1, had, relabelled)
-    }
+pub(crate) fn dropped(t: Touched, p: u32, had: usize, relabelled: bool) -> Offer {
+    let piece = if p < t.i { p } else { p.saturating_add(1) };
+    piece_offer(t.size, piece, had, relabelled)
 }
 
 // A piece with the offset that the session wants, or with its own.
 fn piece_offer(size: u32, piece: u32, had: usize, relabelled: bool) -> Offer {
-    let from = offset_of(size, piece);
+    let from = (size as usize).saturating_mul(piece as usize);
     let offset = if relabelled { had } else { from };
     body(false, from, size as usize, offset)
-}
-
-// Where a piece of that size begins; the sizes are written out, so that no product can wrap.
-fn offset_of(size: u32, piece: u32) -> usize {
-    match size {
-        20 => piece as usize * 20,
-        48 => piece as usize * 48,
-        _ => piece as usize * 96,
-    }
 }

@@ -1,25 +1,41 @@
-// Jobs sealed, and offered to checking sessions, at either width; the length of a nonce says which.
+// Jobs offered to checking sessions.
 use crate::accepted::Accepted;
 use crate::editions::Editions;
-use crate::job::{
-    BODY, KEY, LINE, MESSAGE, NOTE, OTHER_LINE, TRAILER, fill, first_bytes, label, lay,
-    message_length, nonce, part, tag, terms, text,
-};
-use crate::offers::offered;
+use crate::job::{LINE, NOTE, OTHER_LINE, TRAILER, part};
+use crate::message::{Message, label, start};
+use crate::offers::{Offer, offered};
 use crate::random::{SEED, next_job, next_piece};
 use crate::tally::Tally;
-use crate::ways::{End, Way, ending, foreign_nonce, jobs};
+use crate::ways::{End, WAYS, Way};
 use answers::done;
 use held::Held;
-use places::Part;
-use places::terms::Edition;
-use rules::w64::ROW;
+use places::{Label, Part};
 use std::io;
-use texts::same;
+
+// The message of the edition that a session is for, and that of the other.
+#[derive(Clone, Copy)]
+struct Pair<'a> {
+    own: &'a Message<'a>,
+    other: &'a Message<'a>,
+}
+
+impl<'a> Pair<'a> {
+    fn turned(self) -> Pair<'a> {
+        Pair {
+            own: self.other,
+            other: self.own,
+        }
+    }
+
+    fn whose(self, foreign: bool) -> &'a Message<'a> {
+        if foreign { self.other } else { self.own }
+    }
+}
 
 // A session, and what it accepted.
-#[derive(Clone, Copy)]
-struct Run {
+#[derive(Drop)]
+struct Run<'a> {
+    pair: Pair<'a>,
     session: Held,
     accepted: Accepted,
 }
@@ -31,192 +47,86 @@ pub(crate) fn attack(
     nonce: &[u8],
     other_nonce: &[u8],
 ) -> io::Result<Tally> {
-    let mut own = [0u8; MESSAGE];
-    let mut other = [0u8; MESSAGE];
-    let n = message_length(nonce);
-    seal(editions.own, nonce, &LINE, &mut own);
-    seal(editions.other, other_nonce, &OTHER_LINE, &mut other);
-    every_way(rt, editions, part(&own, 0, n), part(&other, 0, n))
-}
-
-// Seals an edition into a message, by a sealing session.
-fn seal(edition: Edition, nonce: &[u8], line: &[u8; 15], message: &mut [u8]) {
-    let mut body = [0u8; BODY];
-    let mut text = [0u8; BODY];
-    let mut tag = [0u8; ROW];
-    fill(&mut body, line);
-    let s = seal_part(
-        start(false, nonce, edition),
-        edition,
-        Part::Note,
-        &NOTE,
-        &mut [0u8; 0],
-    );
-    let s = seal_part(s, edition, Part::Body, &body, &mut text);
-    let s = seal_part(s, edition, Part::Trailer, &TRAILER, &mut [0u8; 0]);
-    s.close(edition, b"", first_bytes(&mut tag, nonce.len()));
-    lay_all(message, &text, nonce, &tag);
-}
-
-fn lay_all(message: &mut [u8], text: &[u8], nonce: &[u8], tag: &[u8]) {
-    let n = nonce.len();
-    lay(message, 0, text);
-    lay(message, BODY, nonce);
-    lay(message, BODY + n, part(tag, 0, n));
-}
-
-// A session of the width that the nonce says.
-fn start(check: bool, nonce: &[u8], edition: Edition) -> Held {
-    let key = part(&KEY, 0, nonce.len());
-    let step = Held::start(check, nonce.len() == ROW, key, nonce, terms(edition));
-    step.session
-}
-
-fn seal_part(s: Held, edition: Edition, part: Part, bytes: &[u8], out: &mut [u8]) -> Held {
-    let step = s.piece(label(edition, part, 0), bytes, out);
-    step.session
-}
-
-fn every_way(rt: &impl Print, e: Editions, own: &[u8], other: &[u8]) -> io::Result<Tally> {
-    let t = counted(
-        rt,
-        "first bytes of one, rest of the other",
-        Way::Cut,
-        e,
-        own,
-        other,
-    )?;
-    let t = t.plus(counted(rt, "two pieces swapped", Way::Swapped, e, own, other)?);
-    let t = t.plus(counted(rt, "a piece repeated", Way::Repeated, e, own, other)?);
-    let t = t.plus(counted(rt, "a piece dropped", Way::Dropped, e, own, other)?);
-    let t = t.plus(counted(rt, "pieces changed at random", Way::Random, e, own, other)?);
-    Ok(t.plus(counted(
-        rt,
-        "honest pieces, refused retries",
-        Way::Honest,
-        e,
-        own,
-        other,
-    )?))
+    let pair = Pair {
+        own: &Message::sealed(editions.own, nonce, &LINE),
+        other: &Message::sealed(editions.other, other_nonce, &OTHER_LINE),
+    };
+    let mut all = Tally::default();
+    for way in WAYS {
+        let tally = every_job(way, pair);
+        println!(rt; "  {way}: {tally}")?;
+        all = all + tally;
+    }
+    Ok(all)
 }
 
 // Offers every job of a way, in turn to a session for the one edition and to one for the other.
-fn counted(
-    rt: &impl Print,
-    name: &str,
-    way: Way,
-    e: Editions,
-    own: &[u8],
-    other: &[u8],
-) -> io::Result<Tally> {
-    let mut t = Tally::none();
+fn every_job(way: Way, pair: Pair) -> Tally {
+    let mut tally = Tally::default();
     let mut x = SEED;
-    let count = jobs(way);
-    for n in 0..count {
-        if n % 2 == 0 {
-            t = t.plus(play(way, n / 2, x, e, own, other));
-        } else {
-            t = t.plus(play(way, n / 2, x, e.turned(), other, own));
-        }
+    for n in 0..way.jobs() {
+        let turn = if n % 2 == 0 { pair } else { pair.turned() };
+        tally = tally + play(way, n / 2, x, turn);
         x = next_job(x);
     }
-    t.print(rt, name)?;
-    Ok(t)
+    tally
 }
 
-// Offers the m'th job of a way to a session for its own edition; own is that edition's message.
-fn play(way: Way, m: u32, seed: u64, e: Editions, own: &[u8], other: &[u8]) -> Tally {
-    let mut run = begun(way, m, e.own, own, other);
+// Offers the m'th job of a way to a session for its own edition.
+fn play(way: Way, m: u32, seed: u64, pair: Pair) -> Tally {
+    let mut run = Run::begun(pair, pair.whose(way.foreign_nonce(m)).nonce);
     let mut x = seed;
     for p in 0..16 {
-        let next = step(run, way, m, p, x, e, own, other);
-        run = next;
+        let had = run.accepted.body;
+        run.offer(offered(way, m, p, had, x));
         x = next_piece(x);
     }
-    close(run, ending(way, m, x), e, own, other)
+    run.close(way.ending(m, x))
 }
 
-// A session that has accepted the note, begun with the nonce of the one message or of the other.
-fn begun(way: Way, m: u32, edition: Edition, own: &[u8], other: &[u8]) -> Run {
-    if foreign_nonce(way, m) {
-        begin(edition, nonce(other), own)
-    } else {
-        begin(edition, nonce(own), own)
+impl<'a> Run<'a> {
+    // A session that has accepted the note, begun with a nonce.
+    fn begun(pair: Pair<'a>, nonce: &[u8]) -> Run<'a> {
+        let edition = pair.own.edition;
+        let mut run = Run {
+            pair,
+            session: start(true, nonce, edition),
+            accepted: Accepted::none(nonce == pair.own.nonce),
+        };
+        run.piece(label(edition, Part::Note, 0), &NOTE);
+        run
     }
-}
 
-fn begin(edition: Edition, given: &[u8], own: &[u8]) -> Run {
-    let session = start(true, given, edition);
-    let accepted = Accepted::none(same(given, nonce(own)));
-    let run = Run {
-        session: session,
-        accepted: accepted,
-    };
-    piece(run, edition, Part::Note, 0, &NOTE, own)
-}
+    fn offer(&mut self, o: Offer) {
+        let text: &[u8] = match o.part {
+            Part::Note => &NOTE,
+            Part::Body => &self.pair.whose(o.foreign_bytes).text,
+            Part::Trailer => &TRAILER,
+        };
+        let said = self.pair.whose(o.foreign_label).edition;
+        self.piece(label(said, o.part, o.offset), part(text, o.from, o.n));
+    }
 
-// Offers the p'th piece of a job.
-fn step(run: Run, way: Way, m: u32, p: u8, x: u64, e: Editions, own: &[u8], other: &[u8]) -> Run {
-    let accepted = run.accepted;
-    let o = offered(way, m, p, accepted.body, x);
-    let said = e.said(o.foreign_label);
-    let of = o.part;
-    match of {
-        Part::Note => piece(run, said, of, o.offset, part(&NOTE, o.from, o.n), own),
-        Part::Body => {
-            if o.foreign_bytes {
-                let bytes = part(text(other), o.from, o.n);
-                piece(run, said, of, o.offset, bytes, own)
-            } else {
-                let bytes = part(text(own), o.from, o.n);
-                piece(run, said, of, o.offset, bytes, own)
-            }
+    // Offers a piece, and keeps what was accepted; where there are no bytes nothing is offered.
+    fn piece(&mut self, label: Label, bytes: &[u8]) {
+        if bytes.is_empty() {
+            return;
         }
-        Part::Trailer => piece(run, said, of, o.offset, part(&TRAILER, o.from, o.n), own),
-    }
-}
-
-// Offers a piece, and keeps what was accepted; where there are no bytes nothing is offered.
-fn piece(run: Run, said: Edition, of: Part, offset: usize, bytes: &[u8], own: &[u8]) -> Run {
-    if bytes.len() == 0 {
-        return run;
-    }
-    let session = run.session;
-    let accepted = run.accepted;
-    let step = session.piece(label(said, of, offset), bytes, &mut [0u8; 0]);
-    let answer = step.answer;
-    let next = step.session;
-    if done(answer) {
-        let more = accepted.more(of, bytes, text(own));
-        Run {
-            session: next,
-            accepted: more,
-        }
-    } else {
-        Run {
-            session: next,
-            accepted: accepted,
+        let step = self.session.piece(label, bytes, &mut []);
+        self.session = step.session;
+        if done(step.answer) {
+            self.accepted.take(label.part, bytes, self.pair.own);
         }
     }
-}
 
-// Offers the trailer, and closes the session.
-fn close(run: Run, end: End, e: Editions, own: &[u8], other: &[u8]) -> Tally {
-    let ended = piece(run, e.own, Part::Trailer, 0, &TRAILER, own);
-    let said = e.said(end.foreign_close);
-    if end.foreign_tag {
-        verdict(ended, said, tag(other), !end.foreign_close, own)
-    } else {
-        verdict(ended, said, tag(own), !end.foreign_close, own)
+    // Offers the trailer, and closes the session. A job passed where the close is done; it is unmixed where all that was accepted, the tag and the close are the edition's own.
+    fn close(mut self, end: End) -> Tally {
+        let own = self.pair.own;
+        self.piece(label(own.edition, Part::Trailer, 0), &TRAILER);
+        let said = self.pair.whose(end.foreign_close).edition;
+        let tag = self.pair.whose(end.foreign_tag).tag();
+        let step = self.session.close(said, tag, &mut []);
+        let unmixed = self.accepted.whole() && !end.foreign_close && tag == own.tag();
+        Tally::one_job(unmixed, done(step.answer))
     }
-}
-
-// A job passed where the close is done; it is unmixed where all that was accepted, the tag and the close are the edition's own.
-fn verdict(run: Run, said: Edition, given: &[u8], own_close: bool, own: &[u8]) -> Tally {
-    let session = run.session;
-    let accepted = run.accepted;
-    let step = session.close(said, given, &mut [0u8; 0]);
-    let answer = step.answer;
-    let unmixed = accepted.whole() & own_close & same(given, tag(own));
-    Tally::one_job(unmixed, done(answer))
 }

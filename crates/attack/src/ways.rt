@@ -1,4 +1,5 @@
 // The ways in which jobs are offered.
+use std::fmt;
 
 #[derive(Clone, Copy)]
 pub(crate) enum Way {
@@ -16,58 +17,64 @@ pub(crate) enum Way {
     Honest,
 }
 
-// How many jobs a way has: half of them for sessions of the one edition, half of the other.
-pub(crate) fn jobs(way: Way) -> u32 {
-    match way {
-        Way::Cut => 4800,
-        Way::Swapped => 580,
-        Way::Repeated => 104,
-        Way::Dropped => 104,
-        Way::Random => 4000,
-        Way::Honest => 1200,
+pub(crate) const WAYS: [Way; 6] = [
+    Way::Cut,
+    Way::Swapped,
+    Way::Repeated,
+    Way::Dropped,
+    Way::Random,
+    Way::Honest,
+];
+
+impl fmt::Display for Way {
+    fn fmt<W: fmt::Write>(&self, f: &mut fmt::Formatter<W>) -> fmt::Result {
+        f.write_str(match self {
+            Way::Cut => "first bytes of one, rest of the other",
+            Way::Swapped => "two pieces swapped",
+            Way::Repeated => "a piece repeated",
+            Way::Dropped => "a piece dropped",
+            Way::Random => "pieces changed at random",
+            Way::Honest => "honest pieces, refused retries",
+        })
     }
 }
 
-// Whether a session for the m'th job is begun with the nonce of the other edition.
-pub(crate) fn foreign_nonce(way: Way, m: u32) -> bool {
-    match way {
-        Way::Cut => 1200 <= m,
-        Way::Swapped => false,
-        Way::Repeated => false,
-        Way::Dropped => false,
-        Way::Random => false,
-        Way::Honest => false,
+impl Way {
+    // How many jobs a way has: half of them for sessions of the one edition, half of the other.
+    pub(crate) fn jobs(self) -> u32 {
+        match self {
+            Way::Cut => 4800,
+            Way::Swapped => 580,
+            Way::Repeated | Way::Dropped => 104,
+            Way::Random => 4000,
+            Way::Honest => 1200,
+        }
+    }
+
+    // Whether a session for the m'th job is begun with the nonce of the other edition.
+    pub(crate) fn foreign_nonce(self, m: u32) -> bool {
+        matches!(self, Way::Cut) && 1200 <= m
+    }
+
+    // The end of the m'th job of a way for one edition.
+    pub(crate) fn ending(self, m: u32, x: u64) -> End {
+        match self {
+            Way::Cut => End {
+                foreign_tag: m % 2 == 1,
+                foreign_close: false,
+            },
+            Way::Random => End {
+                foreign_tag: x % 4 == 0,
+                foreign_close: x / 4 % 8 == 0,
+            },
+            Way::Swapped | Way::Repeated | Way::Dropped | Way::Honest => End::default(),
+        }
     }
 }
 
 // How a job ends: with the tag of the other edition, or a close under it.
-#[derive(Clone, Copy)]
+#[derive(Clone, Copy, Default)]
 pub(crate) struct End {
     pub foreign_tag: bool,
     pub foreign_close: bool,
-}
-
-// The end of the m'th job of a way for one edition.
-pub(crate) fn ending(way: Way, m: u32, x: u64) -> End {
-    match way {
-        Way::Cut => End {
-            foreign_tag: m % 2 == 1,
-            foreign_close: false,
-        },
-        Way::Random => End {
-            foreign_tag: x % 4 == 0,
-            foreign_close: x / 4 % 8 == 0,
-        },
-        Way::Swapped => own_end(),
-        Way::Repeated => own_end(),
-        Way::Dropped => own_end(),
-        Way::Honest => own_end(),
-    }
-}
-
-fn own_end() -> End {
-    End {
-        foreign_tag: false,
-        foreign_close: false,
-    }
 }

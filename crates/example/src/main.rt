@@ -38,15 +38,10 @@ fn seal(text: &mut [u8], tag: &mut [u8; 32]) -> Answer {
     let half = text.len() / 2;
     let SealingStep { answer, session } = Sealing::start(&KEY, &NONCE, TERMS);
     let Answer::Done = answer else { return answer };
-    let SealingStep { answer, session } = session.piece(body(0), b"G1 X10\n", &mut text[0..half]);
+    let SealingStep { answer, session } = session.piece(body(0), b"G1 X10\n", &mut text[..half]);
     let Answer::Done = answer else { return answer };
     let SealingStep { answer, session } = session.piece(body(half), b"G1 Y20\n", &mut text[half..]);
     let Answer::Done = answer else { return answer };
-    close(session, tag)
-}
-
-// Writes the tag of all that was sealed.
-fn close(session: Sealing, tag: &mut [u8; 32]) -> Answer {
     session.close(EDITION, tag).answer
 }
 
@@ -57,12 +52,12 @@ fn check(rt: &impl Print, text: &[u8], tag: &[u8; 32]) -> io::Result<Answer> {
     let Answer::Done = answer else {
         return Ok(answer)
     };
-    let CheckingStep { answer, session } = session.piece(body(0), &text[0..third]);
+    let CheckingStep { answer, session } = session.piece(body(0), &text[..third]);
     let Answer::Done = answer else {
         return Ok(answer)
     };
     // A piece that comes twice is refused, and the session is given back as it was.
-    let CheckingStep { answer, session } = session.piece(body(0), &text[0..third]);
+    let CheckingStep { answer, session } = session.piece(body(0), &text[..third]);
     tell(
         rt,
         "the first piece once more, from an old offset: ",
@@ -77,8 +72,7 @@ fn check(rt: &impl Print, text: &[u8], tag: &[u8; 32]) -> io::Result<Answer> {
 
 // Prints what was called, and the number of its answer.
 fn tell(rt: &impl Print, call: &str, answer: Answer) -> io::Result<()> {
-    rt.print(call)?;
-    rt.println(number(answer))
+    println!(rt; "{call}{}", number(answer))
 }
 
 fn main(rt: HostRuntime) -> io::Result<()> {

@@ -1,10 +1,9 @@
-// What is sealed and checked, and the ways to do it.
+// What is sealed and checked.
 ghost use Rattle.std.specs.Prelude.{◌<◌, ◌≤◌};
 
-use crate::{one_call, w32, w64};
-use answers::Answer;
 use places::terms::{Edition, Terms};
 use places::{Label, Part};
+use std::fmt;
 
 pub(crate) const BODY: usize = 1024 * 1024;
 
@@ -25,10 +24,13 @@ pub(crate) enum Work {
     Check,
 }
 
-#[derive(Clone, Copy)]
-pub(crate) enum Way {
-    OneCall,
-    Pieces,
+impl fmt::Display for Work {
+    fn fmt<W: fmt::Write>(&self, f: &mut fmt::Formatter<W>) -> fmt::Result {
+        f.write_str(match self {
+            Work::Seal => "seal",
+            Work::Check => "check",
+        })
+    }
 }
 
 // A line of what is printed: a work that is done in both ways.
@@ -39,13 +41,9 @@ pub(crate) struct Line {
     pub work: Work,
 }
 
-impl Line {
-    pub(crate) fn of(width: u32, rounds: u32, work: Work) -> Line {
-        Line {
-            width,
-            rounds,
-            work,
-        }
+impl fmt::Display for Line {
+    fn fmt<W: fmt::Write>(&self, f: &mut fmt::Formatter<W>) -> fmt::Result {
+        write!(f, "{} {} {}", self.width, self.rounds, self.work)
     }
 }
 
@@ -70,20 +68,4 @@ pub(crate) fn piece_end(at: usize, n: usize) -> usize
     ensures { (at < result) × (result ≤ n) }
 {
     if n - at < PIECE { n } else { at + PIECE }
-}
-
-// One call seals the body into sealed, and pieces into out; sealed is what is checked, and one call opens it into out.
-pub(crate) fn run(line: Line, way: Way, body: &[u8], sealed: &mut [u8], out: &mut [u8]) -> Answer {
-    match way {
-        Way::OneCall => one_call::run(line, body, sealed, out),
-        Way::Pieces => in_pieces(line, body, sealed, out),
-    }
-}
-
-fn in_pieces(line: Line, body: &[u8], sealed: &[u8], out: &mut [u8]) -> Answer {
-    if line.width == 32 {
-        w32::run(line, body, sealed, out)
-    } else {
-        w64::run(line, body, sealed, out)
-    }
 }

@@ -1,17 +1,14 @@
 // How long one call and pieces take.
-use crate::job::{Line, Way, run};
-use crate::say::{say, say_line, say_number};
-use answers::done;
+use crate::buffers::Buffers;
+use crate::job::Line;
+use answers::{Answer, done};
 use std::io;
-use std::time::{CpuClock, Duration};
+use std::time::CpuClock;
 
 const TURNS: u32 = 200;
 
-// The time of a work that is refused.
-const LONGEST: u64 = 0xffffffffffffffff;
-
 // Microseconds of processor time, the least of all turns.
-#[derive(Drop)]
+#[derive(Clone, Copy)]
 struct Best {
     one_call: u64,
     pieces: u64,
@@ -21,92 +18,61 @@ struct Best {
 pub(crate) fn measure(
     rt: &(impl Print + CpuClock),
     line: Line,
-    body: &[u8],
-    sealed: &mut [u8],
-    out: &mut [u8],
+    buffers: &mut Buffers,
 ) -> io::Result<()> {
-    let best = turns(rt, line, body, sealed, out);
-    say_line(rt, line)?;
-    say_number(rt, best.one_call)?;
-    say(rt, " ")?;
-    say_number(rt, best.pieces)?;
-    say(rt, "\n")
+    let Best { one_call, pieces } = turns(rt, line, buffers);
+    println!(rt; "{line} {one_call} {pieces}")
 }
 
-fn turns(rt: &impl CpuClock, line: Line, body: &[u8], sealed: &mut [u8], out: &mut [u8]) -> Best {
+// Both ways, which take turns at being first.
+fn turns(rt: &impl CpuClock, line: Line, buffers: &mut Buffers) -> Best {
     let mut best = Best {
-        one_call: LONGEST,
-        pieces: LONGEST,
+        one_call: u64::MAX,
+        pieces: u64::MAX,
     };
     for i in 0..TURNS {
-        let next = turn(rt, best, i % 2 == 0, line, body, sealed, out);
-        best = next;
+        if i % 2 == 0 {
+            best.one_call(rt, line, buffers);
+            best.pieces(rt, line, buffers);
+        } else {
+            best.pieces(rt, line, buffers);
+            best.one_call(rt, line, buffers);
+        }
     }
     best
 }
 
-// Both ways once; they take turns at being first.
-fn turn(
-    rt: &impl CpuClock,
-    best: Best,
-    one_call_first: bool,
-    line: Line,
-    body: &[u8],
-    sealed: &mut [u8],
-    out: &mut [u8],
-) -> Best {
-    if one_call_first {
-        let one_call = timed(rt, line, Way::OneCall, body, sealed, out);
-        let pieces = timed(rt, line, Way::Pieces, body, sealed, out);
-        better(best, one_call, pieces)
-    } else {
-        let pieces = timed(rt, line, Way::Pieces, body, sealed, out);
-        let one_call = timed(rt, line, Way::OneCall, body, sealed, out);
-        better(best, one_call, pieces)
+impl Best {
+    fn one_call(&mut self, rt: &impl CpuClock, line: Line, buffers: &mut Buffers) {
+        self.one_call = least(self.one_call, timed(rt, || buffers.in_one_call(line)));
+    }
+
+    fn pieces(&mut self, rt: &impl CpuClock, line: Line, buffers: &mut Buffers) {
+        self.pieces = least(self.pieces, timed(rt, || buffers.in_pieces(line)));
     }
 }
 
-fn better(best: Best, one_call: u64, pieces: u64) -> Best {
-    Best {
-        one_call: least(best.one_call, one_call),
-        pieces: least(best.pieces, pieces),
-    }
+fn least(best: u64, time: Option<u64>) -> u64 {
+    time.map_or(best, |t| t.min(best))
 }
 
-fn least(a: u64, b: u64) -> u64 {
-    if a < b { a } else { b }
-}
-
-fn timed(
-    rt: &impl CpuClock,
-    line: Line,
-    way: Way,
-    body: &[u8],
-    sealed: &mut [u8],
-    out: &mut [u8],
-) -> u64 {
+// How long a work takes; none where it is refused.
+fn timed<F: FnOnce() -> Answer>(rt: &impl CpuClock, work: F) -> Option<u64>
+    requires { F.IsAlwaysCallable work }
+{
     let begin = now(rt);
-    let answer = run(line, way, body, sealed, out);
+    let answer = work();
     let end = now(rt);
     if done(answer) {
-        passed(begin, end)
+        end.checked_sub(begin)
     } else {
-        LONGEST
+        None
     }
 }
 
-fn passed(begin: u64, end: u64) -> u64 {
-    if begin <= end { end - begin } else { LONGEST }
-}
-
-// The processor time so far, in microseconds.
+// The processor time so far, in microseconds, or 0 where the system does not tell it.
 fn now(rt: &impl CpuClock) -> u64 {
-    unsigned(rt.process_cpu_time())
-}
-
-// A time's microseconds, or 0 where the system does not tell the time.
-fn unsigned(t: io::Result<Duration>) -> u64 {
-    match t {
+    match rt.process_cpu_time() {
         Ok(d) => u64::try_from(d.as_micros()).unwrap_or(0),
         Err(_) => 0,
     }

@@ -6,11 +6,23 @@ use answers::Answer;
 use places::front::front;
 use rules::{w32, w64};
 
+// The header is that of a session without a note.
 pub(crate) fn run(line: Line, body: &[u8], sealed: &mut [u8], out: &mut [u8]) -> Answer {
-    let work = line.work;
+    let Line {
+        width,
+        rounds,
+        work,
+    } = line;
+    let n = row(width);
+    let (key, nonce, header) = (&KEY[..n], &NONCE[..n], front(EDITION));
     match work {
-        Work::Seal => seal(line, body, sealed),
-        Work::Check => open(line, sealed, body.len(), out),
+        Work::Seal => sealing::seal(width, rounds, key, nonce, &header, body, b"", sealed).answer,
+        Work::Check => {
+            let Some(out) = out.get_mut(..body.len()) else {
+                return Answer::OutputLength;
+            };
+            sealing::open(width, rounds, key, nonce, &header, sealed, b"", out).answer
+        }
     }
 }
 
@@ -19,41 +31,4 @@ fn row(width: u32) -> usize
     ensures { result ≤ 32 }
 {
     if width == 32 { w32::ROW } else { w64::ROW }
-}
-
-// The header is that of a session without a note.
-fn seal(line: Line, body: &[u8], sealed: &mut [u8]) -> Answer {
-    let n = row(line.width);
-    let header = front(EDITION);
-    let outcome = sealing::seal(
-        line.width,
-        line.rounds,
-        &KEY[0..n],
-        &NONCE[0..n],
-        &header,
-        body,
-        b"",
-        sealed,
-    );
-    outcome.answer
-}
-
-// Opens a text whose body has n bytes.
-fn open(line: Line, sealed: &[u8], n: usize, out: &mut [u8]) -> Answer {
-    if out.len() < n {
-        return Answer::OutputLength;
-    }
-    let row = row(line.width);
-    let header = front(EDITION);
-    let outcome = sealing::open(
-        line.width,
-        line.rounds,
-        &KEY[0..row],
-        &NONCE[0..row],
-        &header,
-        sealed,
-        b"",
-        &mut out[0..n],
-    );
-    outcome.answer
 }

@@ -1,143 +1,133 @@
 // A third day: a long job is served segment by segment, and the retry brings the end of another revision.
-use crate::job::{ELEVEN, KEY, NEW, NOTE, OLD, TWELVE, second_half, terms};
-use crate::told::{say, say_answer, say_lines};
-use crate::tool::{Tool, is_right, say_waiting, start, take};
+use crate::job::{KEY, NEW, NOTE, OLD, second_half, terms};
+use crate::told::{Answered, OnOneLine};
+use crate::tool::Tool;
 use places::terms::Edition;
-use segments::w64::seal;
+use rules::SEGMENT;
+use rules::w64::TAG;
+use segments::w64;
 use std::io;
 
 // The line of which the first segment is made.
-pub(crate) const LINE: [u8; 15] = *b"G1 X80.0 Z-4.0\n";
+const LINE: [u8; 15] = *b"G1 X80.0 Z-4.0\n";
 
 // The nonce of a job; each segment has its own, which is that and eight bytes more.
-pub(crate) const OLD_NONCE: [u8; 24] = *b"job nonce of revision 11";
+const OLD_NONCE: [u8; 24] = *b"job nonce of revision 11";
 
-pub(crate) const NONCE: [u8; 24] = *b"job nonce of revision 12";
+const NONCE: [u8; 24] = *b"job nonce of revision 12";
 
-pub(crate) fn show_job(rt: &impl Print) -> io::Result<()> {
-    say(
-        rt,
-        "\nA third day. 7/12 has 65560 bytes now, and the tool is not to wait for all of them:\n",
-    )?;
-    say(
-        rt,
-        "the job goes in segments of 65536 bytes, each sealed by itself, and the tool is\n",
-    )?;
-    say(
-        rt,
-        "served a segment as soon as its tag was right. What each revision ends in:\n  7/11: ",
-    )?;
-    say_lines(rt, second_half(&OLD))?;
-    say(rt, "\n  7/12: ")?;
-    say_lines(rt, second_half(&NEW))?;
-    say(
-        rt,
-        "\nThe office seals them, and the end of 7/11 also under the nonce of 7/12, as it never\n",
-    )?;
-    say(rt, "should:\n")
+// What is in the first segment; the segments of 7/12, and the last of 7/11 under its own nonce and under that of 7/12.
+#[derive(Drop)]
+pub(crate) struct Segments {
+    body: Vec<u8>,
+    first: Vec<u8>,
+    last: Vec<u8>,
+    old: Vec<u8>,
+    old_again: Vec<u8>,
 }
 
-pub(crate) fn seal_new(
-    rt: &impl Print,
-    body: &[u8],
-    first: &mut [u8],
-    last: &mut [u8],
-) -> io::Result<()> {
-    let end = second_half(&NEW);
-    seal_told(rt, TWELVE, &NONCE, 0, body, first, "  7/12, segment 0")?;
-    seal_told(
-        rt,
-        TWELVE,
-        &NONCE,
-        1,
-        end,
-        last,
-        "  7/12, segment 1, the last",
+pub(crate) fn show_job(rt: &impl Print) -> io::Result<()> {
+    rt.print(
+        "\nA third day. 7/12 has 65560 bytes now, and the tool is not to wait for all of them:\n\
+         the job goes in segments of 65536 bytes, each sealed by itself, and the tool is\n\
+         served a segment as soon as its tag was right. What each revision ends in:\n",
+    )?;
+    println!(rt; "  7/11: {}", OnOneLine(second_half(&OLD.body)))?;
+    println!(rt; "  7/12: {}", OnOneLine(second_half(&NEW.body)))?;
+    rt.print(
+        "The office seals them, and the end of 7/11 also under the nonce of 7/12, as it never\n\
+         should:\n",
     )
 }
 
-pub(crate) fn seal_old(rt: &impl Print, own: &mut [u8], again: &mut [u8]) -> io::Result<()> {
-    let end = second_half(&OLD);
-    say(rt, "  7/11, segment 1, the last, under")?;
-    seal_told(rt, ELEVEN, &OLD_NONCE, 1, end, own, " its own nonce")?;
-    say(rt, "  7/11, segment 1, the last, under")?;
-    seal_told(rt, ELEVEN, &NONCE, 1, end, again, " that of 7/12")
+pub(crate) fn seal_all(rt: &(impl Print + AllocGlobal)) -> io::Result<Segments> {
+    let mut body = vec![in rt.alloc(); 0; SEGMENT]?;
+    for (i, b) in body.iter_mut().enumerate() {
+        *b = LINE[i % 15];
+    }
+    let (new, old) = (second_half(&NEW.body), second_half(&OLD.body));
+    Ok(Segments {
+        first: seal(rt, NEW.edition, &NONCE, 0, &body, "7/12, segment 0")?,
+        last: seal(rt, NEW.edition, &NONCE, 1, new, "7/12, segment 1, the last")?,
+        old: seal(
+            rt,
+            OLD.edition,
+            &OLD_NONCE,
+            1,
+            old,
+            "7/11, segment 1, the last, under its own nonce",
+        )?,
+        old_again: seal(
+            rt,
+            OLD.edition,
+            &NONCE,
+            1,
+            old,
+            "7/11, segment 1, the last, under that of 7/12",
+        )?,
+        body,
+    })
 }
 
 // Seals a segment, of which the second is the last.
-fn seal_told(
-    rt: &impl Print,
+fn seal(
+    rt: &(impl Print + AllocGlobal),
     edition: Edition,
     nonce: &[u8],
     index: u64,
     body: &[u8],
-    out: &mut [u8],
     name: &str,
-) -> io::Result<()> {
-    let terms = terms(edition);
-    let outcome = seal(&KEY, nonce, terms, &NOTE, index, index == 1, body, out);
-    let answer = outcome.answer;
-    say(rt, name)?;
-    say_answer(rt, answer)
+) -> io::Result<Vec<u8>> {
+    let mut out = vec![in rt.alloc(); 0; body.len().saturating_add(TAG)]?;
+    let sealed = w64::seal(
+        &KEY,
+        nonce,
+        terms(edition),
+        &NOTE,
+        index,
+        index == 1,
+        body,
+        &mut out,
+    );
+    println!(rt; "  {name} -> {}", Answered(sealed.answer))?;
+    Ok(out)
 }
 
-pub(crate) fn serve(
-    rt: &impl Print,
-    body: &[u8],
-    first: &[u8],
-    last: &[u8],
-    old: &[u8],
-    old_again: &[u8],
-) -> io::Result<()> {
-    let tool = first_segment(rt, body, first)?;
-    let tool = old_segments(rt, tool, old, old_again)?;
-    let tool = own_segments(rt, tool, first, last)?;
-    conclude(rt, tool)
-}
-
-// The tool begins with the first segment.
-fn first_segment(rt: &impl Print, body: &[u8], first: &[u8]) -> io::Result<Tool> {
-    say(rt, "The tool begins while the rest is being fetched:\n")?;
-    let tool = start(rt, &NONCE, TWELVE)?;
-    take(rt, tool, false, first, body, "first of 12")
+pub(crate) fn serve(rt: &(impl Print + AllocGlobal), s: &Segments) -> io::Result<()> {
+    rt.println("The tool begins while the rest is being fetched:")?;
+    let mut tool = Tool::start(rt, &NONCE, NEW.edition)?;
+    tool.take(rt, false, &s.first, Some(&s.body), "first of 12")?;
+    old_segments(rt, &mut tool, s)?;
+    own_segments(rt, &mut tool, s)?;
+    conclude(rt, &tool)
 }
 
 // The end of the other revision is refused, and nothing of it is served.
-fn old_segments(rt: &impl Print, tool: Tool, old: &[u8], old_again: &[u8]) -> io::Result<Tool> {
-    say(
-        rt,
-        "The fetch times out, and the retry brings the old revision, under either nonce:\n",
-    )?;
-    let tool = take(rt, tool, true, old, b"", "second of 11")?;
-    take(rt, tool, true, old_again, b"", "second of 11")
+fn old_segments(rt: &(impl Print + AllocGlobal), tool: &mut Tool, s: &Segments) -> io::Result<()> {
+    rt.println("The fetch times out, and the retry brings the old revision, under either nonce:")?;
+    tool.take(rt, true, &s.old, None, "second of 11")?;
+    tool.take(rt, true, &s.old_again, None, "second of 11")
 }
 
 // So is all that is of the job itself and not the segment that it waits for.
-fn own_segments(rt: &impl Print, tool: Tool, first: &[u8], last: &[u8]) -> io::Result<Tool> {
-    let due = second_half(&NEW);
-    say(
-        rt,
-        "Then the segment that the tool has already, and the second not called the last:\n",
-    )?;
-    let tool = take(rt, tool, false, first, b"", "first of 12")?;
-    let tool = take(rt, tool, false, last, b"", "second of 12")?;
-    say_waiting(rt, tool)?;
-    let tool = take(rt, tool, true, last, due, "second of 12")?;
-    take(rt, tool, true, last, b"", "second of 12")
+fn own_segments(rt: &(impl Print + AllocGlobal), tool: &mut Tool, s: &Segments) -> io::Result<()> {
+    let due = second_half(&NEW.body);
+    rt.println("Then the segment that the tool has already, and the second not called the last:")?;
+    tool.take(rt, false, &s.first, None, "first of 12")?;
+    tool.take(rt, false, &s.last, None, "second of 12")?;
+    tool.say_waiting(rt)?;
+    tool.take(rt, true, &s.last, Some(due), "second of 12")?;
+    tool.take(rt, true, &s.last, None, "second of 12")
 }
 
 // What was shown, if the tool was served as it must.
-fn conclude(rt: &impl Print, tool: Tool) -> io::Result<()> {
-    if is_right(tool) {
-        say(
-            rt,
-            "\nShown: the tool has all of 7/12, the first segment early, and the end of another\n",
-        )?;
-        say(rt, "revision is refused before a byte of it is served.\n")
-    } else {
-        say(
-            rt,
-            "\nNot shown: a segment above was not served as it must.\n",
+fn conclude(rt: &impl Print, tool: &Tool) -> io::Result<()> {
+    if tool.is_right() {
+        rt.print(
+            "\nShown: the tool has all of 7/12, the first segment early, and the end of another\n\
+             revision is refused before a byte of it is served.\n",
         )
+    } else {
+        rt.print("\nNot shown: a segment above was not served as it must.\n")
     }
 }

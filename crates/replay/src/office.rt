@@ -1,46 +1,32 @@
-// The office: it seals an edition of a job.
-use crate::job::{KEY, NOTE, TRAILER, label, terms};
-use crate::told::{say, say_edition, say_number};
-use answers::{Answer, number};
+// The office: it seals jobs.
+use crate::job::{Job, KEY, NOTE, TRAILER, label, terms};
+use crate::told::Named;
+use answers::number;
 use places::Part;
 use places::terms::Edition;
 use session64::seal::Sealing;
 use std::io;
 
-// Seals an edition, one piece for each part, and prints what the calls answer.
-pub(crate) fn seal(
-    rt: &impl Print,
-    edition: Edition,
-    nonce: &[u8],
-    body: &[u8],
-    text: &mut [u8],
-    tag: &mut [u8],
-) -> io::Result<()> {
-    say(rt, "  ")?;
-    say_edition(rt, edition)?;
-    let s = start(rt, nonce, edition)?;
-    let s = piece(rt, s, ", note ", edition, Part::Note, &NOTE, &mut [0u8; 0])?;
-    let s = piece(rt, s, ", body ", edition, Part::Body, body, text)?;
-    let s = piece(
-        rt,
-        s,
-        ", trailer ",
-        edition,
-        Part::Trailer,
-        &TRAILER,
-        &mut [0u8; 0],
-    )?;
-    let step = s.close(edition, tag);
-    let answer = step.answer;
-    say_call(rt, ", close ", answer)?;
-    say(rt, "\n")
+// What a job is sealed to.
+#[derive(Clone, Copy)]
+pub(crate) struct Sealed {
+    pub job: Job,
+    pub text: [u8; 48],
+    pub tag: [u8; 32],
 }
 
-fn start(rt: &impl Print, nonce: &[u8], edition: Edition) -> io::Result<Sealing> {
-    let step = Sealing::start(&KEY, nonce, terms(edition));
-    let answer = step.answer;
-    say_call(rt, ": start ", answer)?;
-    Ok(step.session)
+// Seals a job, one piece for each part, and prints what the calls answer.
+pub(crate) fn seal(rt: &impl Print, job: Job) -> io::Result<Sealed> {
+    let mut text = [0; 48];
+    let mut tag = [0; 32];
+    let of = job.edition;
+    let step = Sealing::start(&KEY, &job.nonce, terms(of));
+    print!(rt; "  {}: start {}", Named(of), number(step.answer))?;
+    let s = piece(rt, step.session, ", note ", of, Part::Note, &NOTE, &mut [])?;
+    let s = piece(rt, s, ", body ", of, Part::Body, &job.body, &mut text)?;
+    let s = piece(rt, s, ", trailer ", of, Part::Trailer, &TRAILER, &mut [])?;
+    println!(rt; ", close {}", number(s.close(of, &mut tag).answer))?;
+    Ok(Sealed { job, text, tag })
 }
 
 fn piece(
@@ -53,13 +39,6 @@ fn piece(
     out: &mut [u8],
 ) -> io::Result<Sealing> {
     let step = s.piece(label(edition, part, 0), bytes, out);
-    let answer = step.answer;
-    say_call(rt, call, answer)?;
+    print!(rt; "{call}{}", number(step.answer))?;
     Ok(step.session)
-}
-
-// The name of a call, and the number of its answer.
-fn say_call(rt: &impl Print, call: &str, answer: Answer) -> io::Result<()> {
-    say(rt, call)?;
-    say_number(rt, number(answer) as u64)
 }

@@ -1,79 +1,78 @@
-// What is printed: texts, numbers, editions, parts, and the words of an answer.
+// How what is printed reads: editions, texts, pieces and answers.
 use answers::{Answer, number};
-use places::Part;
 use places::terms::Edition;
-use std::io;
-
-pub(crate) fn say(rt: &impl Print, text: &str) -> io::Result<()> {
-    rt.print(text)
-}
-
-pub(crate) fn say_number(rt: &impl Print, n: u64) -> io::Result<()> {
-    rt.print(n)
-}
+use places::{Label, Part};
+use std::fmt;
 
 // 7/12 is revision 12 of job 7.
-pub(crate) fn say_edition(rt: &impl Print, edition: Edition) -> io::Result<()> {
-    say_number(rt, edition.job)?;
-    say(rt, "/")?;
-    say_number(rt, edition.revision)
+#[derive(Clone, Copy)]
+pub(crate) struct Named(pub Edition);
+
+impl fmt::Display for Named {
+    fn fmt<W: fmt::Write>(&self, f: &mut fmt::Formatter<W>) -> fmt::Result {
+        write!(f, "{}/{}", self.0.job, self.0.revision)
+    }
 }
 
 // A text on one line: "/" stands for the end of each of its lines.
-pub(crate) fn say_lines(rt: &impl Print, text: &[u8]) -> io::Result<()> {
-    for b in text {
-        say_byte(rt, *b)?;
-    }
-    Ok(())
-}
+#[derive(Clone, Copy)]
+pub(crate) struct OnOneLine<'a>(pub &'a [u8]);
 
-fn say_byte(rt: &impl Print, b: u8) -> io::Result<()> {
-    if b == b'\n' {
-        say(rt, "/")
-    } else {
-        let one = [b];
-        rt.write_all(&one)
+impl fmt::Display for OnOneLine<'_> {
+    fn fmt<W: fmt::Write>(&self, f: &mut fmt::Formatter<W>) -> fmt::Result {
+        for b in self.0 {
+            f.write_char(if *b == b'\n' { '/' } else { char::from(*b) })?;
+        }
+        Ok(())
     }
 }
 
-pub(crate) fn say_part(rt: &impl Print, part: Part) -> io::Result<()> {
-    match part {
-        Part::Note => say(rt, "note"),
-        Part::Body => say(rt, "body"),
-        Part::Trailer => say(rt, "trailer"),
+// What a piece says of itself.
+#[derive(Clone, Copy)]
+pub(crate) struct Said(pub Label);
+
+impl fmt::Display for Said {
+    fn fmt<W: fmt::Write>(&self, f: &mut fmt::Formatter<W>) -> fmt::Result {
+        let part = match self.0.part {
+            Part::Note => "note",
+            Part::Body => "body",
+            Part::Trailer => "trailer",
+        };
+        write!(
+            f,
+            "{}, {part} from {}",
+            Named(self.0.edition),
+            self.0.offset
+        )
     }
 }
 
-// The number of an answer and what it means, at the end of a line.
-pub(crate) fn say_answer(rt: &impl Print, answer: Answer) -> io::Result<()> {
-    say_result(rt, answer)?;
-    say(rt, "\n")
+// The number of an answer and what it means.
+#[derive(Clone, Copy)]
+pub(crate) struct Answered(pub Answer);
+
+impl fmt::Display for Answered {
+    fn fmt<W: fmt::Write>(&self, f: &mut fmt::Formatter<W>) -> fmt::Result {
+        write!(f, "{}, {}", number(self.0), meaning(self.0))
+    }
 }
 
-// The same where the line goes on.
-pub(crate) fn say_result(rt: &impl Print, answer: Answer) -> io::Result<()> {
-    say(rt, " -> ")?;
-    say_number(rt, number(answer) as u64)?;
-    say(rt, ", ")?;
-    say_meaning(rt, answer)
-}
-
-fn say_meaning(rt: &impl Print, answer: Answer) -> io::Result<()> {
+fn meaning(answer: Answer) -> &'static str {
     match answer {
-        Answer::Done => say(rt, "done"),
-        Answer::KeyLength => say(rt, "refused: the key or the nonce has another length"),
-        Answer::RoundsNumber => say(rt, "refused: the rounds are not 4 or 6"),
-        Answer::TagLength => say(rt, "refused: the tag has another length"),
-        Answer::OverLimit => say(rt, "refused: the part would be too long"),
-        Answer::OutputLength => say(rt, "refused: the output has another length"),
-        Answer::OtherRevision => say(rt, "refused: not the session's revision"),
-        Answer::EarlierPart => say(rt, "refused: that part has ended"),
-        Answer::OtherOffset => say(rt, "refused: not the next offset"),
-        Answer::NotSound => say(rt, "refused: session closed or not sound"),
-        Answer::TagDiffers => say(rt, "refused: the tag differs"),
-        Answer::WidthNumber => say(rt, "refused: the width is not 32 or 64"),
-        Answer::OtherJob => say(rt, "refused: not the session's job"),
-        Answer::SegmentLength => say(rt, "refused: not the length of that segment"),
-        Answer::AfterLast => say(rt, "refused: a segment after the last"),
+        Answer::Done => "done",
+        Answer::KeyLength => "refused: the key or the nonce has another length",
+        Answer::RoundsNumber => "refused: the rounds are not 4 or 6",
+        Answer::TagLength => "refused: the tag has another length",
+        Answer::OverLimit => "refused: the part would be too long",
+        Answer::OutputLength => "refused: the output has another length",
+        Answer::OtherRevision => "refused: not the session's revision",
+        Answer::EarlierPart => "refused: that part has ended",
+        Answer::OtherOffset => "refused: not the next offset",
+        Answer::NotSound => "refused: session closed or not sound",
+        Answer::TagDiffers => "refused: the tag differs",
+        Answer::WidthNumber => "refused: the width is not 32 or 64",
+        Answer::OtherJob => "refused: not the session's job",
+        Answer::SegmentLength => "refused: not the length of that segment",
+        Answer::AfterLast => "refused: a segment after the last",
     }
 }

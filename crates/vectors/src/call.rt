@@ -1,45 +1,61 @@
-// A line that is no comment: the call that its first word names.
-use crate::arguments::{Arguments, read};
-use crate::names::{STANDINGS, find, row};
-use crate::parts::{part, place_of};
-use crate::run::Run;
-use crate::{made, reading, room, show, tell};
-use texts::same;
+// A line answered: a call, a comment, or neither.
+use crate::asked::{Asked, read};
+use crate::fault::Fault;
+use crate::names::Call;
+use crate::{made, reading, show};
+use dispatch::kept::Kept;
 
-// Behind `quiet ` a call is a quiet one.
-pub(crate) fn called(rt: &(impl Print + Eprint), line: &[u8], mut run: Run) -> Run {
-    run.is_quiet = same(part(line, 0, 6), b"quiet ");
-    let from = if run.is_quiet { 6 } else { 0 };
-    asked(rt, part(line, from, line.len()), run)
-}
+// The most bytes of a line.
+pub(crate) const LINE_MOST: usize = 400000;
 
-// Reads the call and its words.
-fn asked(rt: &(impl Print + Eprint), line: &[u8], run: Run) -> Run {
-    let end = place_of(b' ', line, 0, line.len());
-    let k = find(part(line, 0, end), 0, STANDINGS);
-    let mut memory = room::bytes();
-    let a = read(line, end + 1, row(k), &mut memory);
-    if !a.right {
-        return no_call(rt, run);
+// Answers a line; one that is no call changes nothing.
+pub(crate) fn answer(
+    rt: &(impl Print + AllocGlobal),
+    line: &[u8],
+    kept: &mut Kept,
+) -> Result<(), Fault> {
+    match called(rt, line, kept) {
+        Err(Fault::NoCall) => Ok(rt.print("?\n")?),
+        answered => answered,
     }
-    answered(rt, k, a, &memory, run)
 }
 
-// A line that is no call changes nothing.
-pub(crate) fn no_call(rt: &(impl Print + Eprint), run: Run) -> Run {
-    run.told(rt, tell::no_call(rt))
+// An empty line and a comment are written as they are, and behind `quiet ` a call is a quiet one.
+fn called(rt: &(impl Print + AllocGlobal), line: &[u8], kept: &mut Kept) -> Result<(), Fault> {
+    if LINE_MOST < line.len() {
+        return Err(Fault::NoCall);
+    }
+    if line.is_empty() || line.starts_with(b"#") {
+        rt.write_all(line)?;
+    } else if let Some(call) = line.strip_prefix(b"quiet ") {
+        made(rt, &read(rt.alloc(), call)?, false, kept)?;
+    } else {
+        made(rt, &read(rt.alloc(), line)?, true, kept)?;
+    }
+    Ok(rt.print("\n")?)
 }
 
-// Answers the call of a row of the names. One that changes nothing gives whether its line was written.
-fn answered(rt: &(impl Print + Eprint), k: usize, a: Arguments, memory: &[u8], run: Run) -> Run {
-    let written = match k {
-        0 => show::constants(rt, a, run.is_quiet),
-        8 => show::session(rt, run),
-        9 => return show::put(rt, a, run),
-        13 => return show::put_receiver(rt, a, run),
-        15 => reading::list(rt, a, memory, run.is_quiet),
-        16 => reading::fields(rt, a, memory, run.is_quiet),
-        _ => return made::answered(rt, k, a, memory, run),
-    };
-    run.told(rt, written)
+// Makes a call and writes its line: the first word alone where it is quiet, and else all of them.
+fn made(
+    rt: &(impl Print + AllocGlobal),
+    asked: &Asked,
+    loud: bool,
+    kept: &mut Kept,
+) -> Result<(), Fault> {
+    match asked.call {
+        Call::Constants => show::constants(rt, asked.words.first, loud)?,
+        Call::Show => show::session(rt, kept.session, loud)?,
+        Call::Put => {
+            kept.session = dispatch::put(asked.words, kept.session);
+            rt.print(0)?;
+        }
+        Call::Await => {
+            kept.receiver = dispatch::jobs::put(asked.words, kept.receiver);
+            rt.print(0)?;
+        }
+        Call::Read => reading::list(rt, asked, loud)?,
+        Call::Fields => reading::fields(rt, asked, loud)?,
+        _ => made::answer(rt, asked, loud, kept)?,
+    }
+    Ok(())
 }

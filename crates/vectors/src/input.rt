@@ -1,5 +1,4 @@
 // Standard input.
-use crate::parts::part;
 use std::io::Read;
 
 // Reads once, and gives the bytes that came: none where the input has ended, or cannot be read, which is said.
@@ -11,5 +10,5 @@ pub(crate) fn read<'a>(rt: &impl Eprint, stdin: &mut impl Read, chunk: &'a mut [
             0
         }
     };
-    part(chunk, 0, n)
+    &chunk[..n]
 }

@@ -1,46 +1,47 @@
 // The library's calls, made and their lines written.
-use crate::arguments::Arguments;
-use crate::call::no_call;
-use crate::names::{TAKEN, reports_runs};
-use crate::parts::{first, part};
-use crate::run::Run;
-use crate::{room, tell};
+use crate::asked::Asked;
+use crate::fault::Fault;
+use crate::names::Call;
+use crate::tell;
 use answers::number;
-use dispatch::kept::KeptStep;
+use dispatch::kept::{Kept, KeptStep};
 use std::io;
 
-// A line has the answer, the runs of P where the call reports them, the output where one is lent, and where a segment is taken, what the receiver waits for; a quiet one the answer alone.
-pub(crate) fn answered(
-    rt: &(impl Print + Eprint),
-    k: usize,
-    a: Arguments,
-    memory: &[u8],
-    mut run: Run,
-) -> Run {
-    if !dispatch::is_call(k, a.words, run.kept.session) {
-        return no_call(rt, run);
+// Every byte of an output before a call.
+const UNTOUCHED: u8 = 0xa5;
+
+// Makes a call where what is kept allows it.
+pub(crate) fn answer(
+    rt: &(impl Print + AllocGlobal),
+    asked: &Asked,
+    loud: bool,
+    kept: &mut Kept,
+) -> Result<(), Fault> {
+    let k = asked.call as usize;
+    if !dispatch::is_call(k, asked.words, kept.session) {
+        return Err(Fault::NoCall);
     }
-    let mut out = room::out();
-    let step = dispatch::kept::call(k, a.words, memory, run.kept, first(&mut out, a.lent));
-    run.kept = step.kept;
-    let loud = !run.is_quiet;
-    let out = part(&out, 0, a.lent);
-    run.told(rt, tell_made(rt, k, loud, step, a.lends, out))
+    let mut out = vec![in rt.alloc(); UNTOUCHED; asked.lent.unwrap_or(0)]?;
+    let step = dispatch::kept::call(k, asked.words, &asked.memory, *kept, &mut out);
+    *kept = step.kept;
+    rt.print(number(step.answer))?;
+    if loud {
+        tell_rest(rt, asked, step, &out)?;
+    }
+    Ok(())
 }
 
-// The line of a call that was made, where an output was lent with what stands in it.
-fn tell_made(
-    rt: &impl Print,
-    k: usize,
-    loud: bool,
-    step: KeptStep,
-    lent: bool,
-    out: &[u8],
-) -> io::Result<()> {
-    let answer = step.answer;
-    let receiver = step.kept.receiver;
-    tell::outcome(rt, number(answer), reports_runs(k) & loud, step.runs)?;
-    tell::output(rt, lent & loud, out)?;
-    tell::waiting(rt, (k == TAKEN) & loud, receiver.waiting())?;
-    tell::byte(rt, b'\n')
+// Behind the answer the runs of P where the call reports them, the output where one is lent, and where a segment is taken, what the receiver waits for.
+fn tell_rest(rt: &impl Print, asked: &Asked, step: KeptStep, out: &[u8]) -> io::Result<()> {
+    if asked.call.reports_runs() {
+        print!(rt; " {}", step.runs)?;
+    }
+    if asked.lent.is_some() {
+        tell::bytes(rt, out)?;
+    }
+    if asked.call == Call::Take {
+        let waiting = step.kept.receiver.waiting();
+        print!(rt; " {} {}", waiting.index, u8::from(waiting.complete))?;
+    }
+    Ok(())
 }

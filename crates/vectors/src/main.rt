@@ -1,49 +1,40 @@
 // Reads calls from standard input, one a line, and writes a line for each: what the library answered and what it left behind. docs/VECTORS.md has the language.
 #![tactic(auto)]
 
-mod arguments;
+mod asked;
 mod call;
-mod decode;
+mod fault;
 mod input;
-mod lines;
 mod made;
 mod names;
-mod parts;
 mod reading;
-mod room;
 mod run;
 mod show;
 mod tell;
 
-use dispatch::kept::Kept;
-use held::Held;
-use held::receiver::HeldReceiver;
+use fault::Fault;
 use run::Run;
+use std::io::Read;
 
-// Answers every line, until the input ends, and with it a last line that has no newline, or a write fails. A proved loop has to end, so it has a number of turns that no run uses up.
 fn main(rt: HostRuntime) {
-    let mut stdin = rt.stdin();
-    let mut chunk = [0u8; 65536];
-    let mut line = room::bytes();
-    let kept = Kept {
-        session: Held::closed(false, true),
-        receiver: HeldReceiver::none(true),
-    };
-    let mut run = Run {
-        kept,
-        is_quiet: false,
-        gathered: 0,
-        goes_on: true,
-    };
+    if let Err(fault) = answer_all(&rt, &mut rt.stdin()) {
+        let _ = eprintln!(rt; "vectors: {fault}");
+    }
+}
+
+// Answers every line, until the input ends. A proved loop has to end, so it has a number of turns that no run uses up.
+fn answer_all(
+    rt: &(impl Print + Eprint + AllocGlobal),
+    stdin: &mut impl Read,
+) -> Result<(), Fault> {
+    let mut chunk = [0; 65536];
+    let mut run = Run::new(rt.alloc());
     for _ in 0..u64::MAX {
-        let bytes = input::read(&rt, &mut stdin, &mut chunk);
-        let next = lines::with_read(&rt, run, bytes, &mut line);
-        run = next;
-        if !run.goes_on {
+        let bytes = input::read(rt, stdin, &mut chunk);
+        if bytes.is_empty() {
             break;
         }
+        run.take(rt, bytes)?;
     }
-    if 0 < run.gathered {
-        lines::answered(&rt, run, &line);
-    }
+    run.end(rt)
 }

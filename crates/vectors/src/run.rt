@@ -1,23 +1,51 @@
-// The run so far.
+// The run so far: the session and the receiver that are kept, and what is there of the line that is being read.
+use crate::call::{LINE_MOST, answer};
+use crate::fault::Fault;
 use dispatch::kept::Kept;
-use std::io;
+use held::Held;
+use held::receiver::HeldReceiver;
+use std::alloc::Global;
 
-// The session and the receiver that are kept, whether the line that is answered is a quiet one, how many bytes of the line that is being read are gathered, and whether the run goes on: the input has not ended, and all lines so far were written.
-#[derive(Clone, Copy)]
+#[derive(Drop)]
 pub(crate) struct Run {
-    pub kept: Kept,
-    pub is_quiet: bool,
-    pub gathered: usize,
-    pub goes_on: bool,
+    kept: Kept,
+    line: Vec<u8>,
 }
 
 impl Run {
-    // The same, where a line was written or not, which is said.
-    pub(crate) fn told(mut self, rt: &impl Eprint, written: io::Result<()>) -> Run {
-        self.goes_on = written.is_ok();
-        if !self.goes_on {
-            let _ = rt.eprintln("vectors: standard output cannot be written");
+    pub(crate) fn new(alloc: Global) -> Run {
+        let kept = Kept {
+            session: Held::closed(false, true),
+            receiver: HeldReceiver::none(true),
+        };
+        Run {
+            kept,
+            line: Vec::new(alloc),
         }
-        self
+    }
+
+    // Takes what a read brought: a newline ends a line, and any other byte is gathered, up to the one that shows that the line is too long.
+    pub(crate) fn take(
+        &mut self,
+        rt: &(impl Print + AllocGlobal),
+        bytes: &[u8],
+    ) -> Result<(), Fault> {
+        for b in bytes {
+            if *b == b'\n' {
+                answer(rt, &self.line, &mut self.kept)?;
+                self.line.clear();
+            } else if self.line.len() <= LINE_MOST {
+                self.line.push(*b)?;
+            }
+        }
+        Ok(())
+    }
+
+    // Takes the end of the input: a last line needs no newline.
+    pub(crate) fn end(&mut self, rt: &(impl Print + AllocGlobal)) -> Result<(), Fault> {
+        if self.line.is_empty() {
+            return Ok(());
+        }
+        answer(rt, &self.line, &mut self.kept)
     }
 }
