@@ -6,6 +6,7 @@ use mathlib.Core.Logic.{◌≢◌, ◌⊎◌, inl, inr}
 use Prim.Native.Nat.{ℕ, ◌≤◌}
 use native.Mathlib.Omega.{arith}
 use Rattle.std.specs.Prelude.{Ok, Err, ⊤}
+use Rattle.std.specs.Result.{result_and}
 use Rattle.answers.specs.declared.Refusal.{Refusal}
 use Rattle.answers.specs.declared.Refusal.TheVariants.{KeyLength, RoundsNumber, TagLength, OverLimit, OutputLength, OtherRevision, EarlierPart, OtherOffset, NotSound, TagDiffers, WidthNumber, OtherJob, SegmentLength, AfterLast}
 use Rattle.answers.specs.Answers.{Answer, refusal_number, number_of, done_of, need_of}
@@ -64,6 +65,16 @@ pub link_not : (n : ℕ) (ok : Bool) (refusal : Refusal) (rest : Answer) → ref
 unfolding need_of
 link_not n true refusal rest h g = g
 link_not n false refusal rest h g = h
+
+-- an answer with another behind it, as a part of a chain: done where both are
+pub both_done : (a rest : Answer) → done_of (result_and a rest) ≡ true → (done_of a ≡ true) × (done_of rest ≡ true)
+both_done (Ok done) rest e = (refl, e)
+both_done (Err refusal) rest e = absurd (false≢true e)
+
+-- a number that neither of the two has is not answered
+pub and_not : (n : ℕ) (a rest : Answer) → number_of a ≢ n → number_of rest ≢ n → number_of (result_and a rest) ≢ n
+and_not n (Ok done) rest h g = g
+and_not n (Err refusal) rest h g = h
 
 pub both : (a b : Bool) → (a && b) ≡ true → (a ≡ true) × (b ≡ true)
 both true b e = (refl, e)
