@@ -1,11 +1,13 @@
 -- Chains of refusals: put together link by link, and what is known where one gives no refusal.
 -- Assumes nothing.
-use mathlib.Core.Path.{◌≡◌, refl}
+use mathlib.Core.Path.{◌≡◌, refl, sym, ◌∙◌}
 use mathlib.Core.Bool.{Bool, true, false, ◌&&◌, ◌||◌, false≢true}
 use mathlib.Core.Logic.{◌≢◌, ◌⊎◌, inl, inr}
 use Prim.Native.Nat.{ℕ, ◌≤◌}
 use native.Mathlib.Omega.{arith}
-use Rattle.std.specs.Prelude.{Ok, Err, ⊤}
+use borrow.Author.Tests.{ne_eqb}
+use lib.Dec.{eqb}
+use Rattle.std.specs.Prelude.{Ok, Err, ⊤, is_err}
 use Rattle.std.specs.Result.{result_and}
 use Rattle.answers.specs.declared.Refusal.{Refusal}
 use Rattle.answers.specs.declared.Refusal.TheVariants.{KeyLength, RoundsNumber, TagLength, OverLimit, OutputLength, OtherRevision, EarlierPart, OtherOffset, NotSound, TagDiffers, WidthNumber, OtherJob, SegmentLength, AfterLast}
@@ -16,27 +18,49 @@ pub done_zero : (a : Answer) → done_of a ≡ true → number_of a ≡ 0
 done_zero (Ok done) e = refl
 done_zero (Err refusal) e = absurd (false≢true e)
 
+-- no refusal has the number 0
+some_number : (refusal : Refusal) → 1 ≤ refusal_number refusal
+some_number KeyLength = omega arith
+some_number RoundsNumber = omega arith
+some_number TagLength = omega arith
+some_number OverLimit = omega arith
+some_number OutputLength = omega arith
+some_number OtherRevision = omega arith
+some_number EarlierPart = omega arith
+some_number OtherOffset = omega arith
+some_number NotSound = omega arith
+some_number TagDiffers = omega arith
+some_number WidthNumber = omega arith
+some_number OtherJob = omega arith
+some_number SegmentLength = omega arith
+some_number AfterLast = omega arith
+
 pub zero_done : (a : Answer) → number_of a ≡ 0 → done_of a ≡ true
 zero_done (Ok done) e = refl
-zero_done (Err refusal) e =
-    let some : 1 ≤ refusal_number refusal =
-    elim refusal as (λ r. 1 ≤ refusal_number r) [
-      | KeyLength ↦ omega arith
-      | RoundsNumber ↦ omega arith
-      | TagLength ↦ omega arith
-      | OverLimit ↦ omega arith
-      | OutputLength ↦ omega arith
-      | OtherRevision ↦ omega arith
-      | EarlierPart ↦ omega arith
-      | OtherOffset ↦ omega arith
-      | NotSound ↦ omega arith
-      | TagDiffers ↦ omega arith
-      | WidthNumber ↦ omega arith
-      | OtherJob ↦ omega arith
-      | SegmentLength ↦ omega arith
-      | AfterLast ↦ omega arith
-    ] in
-    absurd (omega arith)
+zero_done (Err refusal) e = let some = some_number refusal in absurd (omega arith)
+
+pub not_done : (a : Answer) → number_of a ≢ 0 → done_of a ≡ false
+not_done (Ok done) h = absurd (h refl)
+not_done (Err refusal) h = refl
+
+pub by_number : (a : Answer) → eqb (number_of a) 0 ≡ done_of a
+by_number (Ok done) = refl
+by_number (Err refusal) = let some = some_number refusal in ne_eqb (refusal_number refusal) 0 (λ e. omega arith)
+
+-- how a test of an answer came out
+pub found_done : (a : Answer) {f : Bool} → f ≡ is_err a → f ≡ false → done_of a ≡ true
+found_done a e h = go a (sym e ∙ h)
+  where
+    go : (a : Answer) → is_err a ≡ false → done_of a ≡ true
+    go (Ok done) h = refl
+    go (Err refusal) h = absurd (false≢true (sym h))
+
+pub found_refused : (a : Answer) {f : Bool} → f ≡ is_err a → f ≡ true → done_of a ≡ false
+found_refused a e h = go a (sym e ∙ h)
+  where
+    go : (a : Answer) → is_err a ≡ true → done_of a ≡ false
+    go (Ok done) h = absurd (false≢true h)
+    go (Err refusal) h = refl
 
 -- one link of a chain on its two ways: its own refusal is that of the chain, and else the rest of the chain decides
 pub refuses : (ok : Bool) (refusal : Refusal) {r : Refusal} (rest : Answer) → Err r ≡ need_of ok refusal (Ok tt) → Err r ≡ need_of ok refusal rest
