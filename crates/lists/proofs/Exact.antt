@@ -8,7 +8,7 @@ use Prim.Native.Nat.{ℕ, ◌<◌, ◌≤◌}
 use native.Mathlib.Nat.{eq-or-lt_of_le}
 use native.Mathlib.Omega.{arith}
 use lib.ListN.{length, length-append}
-use Rattle.answers.specs.declared.Answer.TheVariants.{Done}
+use Rattle.std.specs.Prelude.{Ok}
 use Rattle.answers.specs.Answers.{done_of}
 use Rattle.cutting.specs.Cutting.{count_of}
 use Rattle.decimal.proofs.Digits.{lt_or_ge}
@@ -43,7 +43,7 @@ read_once t (Refused m) (Refused n) p q =
 pub list_written : (t : List ℕ) → IsList t → CanWrite t
 list_written t is =
     let L = is.3 in
-    let done : write_answer is.0 is.1 is.2 t ≡ Done = answer_done is.0 is.1 is.2 t L.within (ap length L.text) in
+    let done : write_answer is.0 is.1 is.2 t ≡ Ok tt = answer_done is.0 is.1 is.2 t L.within (ap length L.text) in
     record {
       job = is.0;
       revision = is.1;
