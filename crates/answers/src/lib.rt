@@ -4,6 +4,9 @@
 ghost use Rattle.std.specs.Prelude.{◌≡◌, Ok};
 ghost use Rattle.answers.specs.Answers.{number_of, need_of, reported_of};
 
+use std::error::Error;
+use std::fmt;
+
 // The cause of a refusal, with its number.
 #[derive(Clone, Copy, Debug, PartialEq, Eq)]
 pub enum Refusal {
@@ -22,6 +25,29 @@ pub enum Refusal {
     SegmentLength,
     AfterLast,
 }
+
+impl fmt::Display for Refusal {
+    fn fmt<W: fmt::Write>(&self, f: &mut fmt::Formatter<W>) -> fmt::Result {
+        f.write_str(match self {
+            Refusal::KeyLength => "the key or the nonce has another length",
+            Refusal::RoundsNumber => "the rounds are not 4 or 6",
+            Refusal::TagLength => "the tag has another length",
+            Refusal::OverLimit => "the part would be too long",
+            Refusal::OutputLength => "the output has another length",
+            Refusal::OtherRevision => "not the session's revision",
+            Refusal::EarlierPart => "that part has ended",
+            Refusal::OtherOffset => "not the next offset",
+            Refusal::NotSound => "session closed or not sound",
+            Refusal::TagDiffers => "the tag differs",
+            Refusal::WidthNumber => "the width is not 32 or 64",
+            Refusal::OtherJob => "not the session's job",
+            Refusal::SegmentLength => "not the length of that segment",
+            Refusal::AfterLast => "a segment after the last",
+        })
+    }
+}
+
+impl Error for Refusal {}
 
 // The number of an answer, as the table of answers gives it: 0 where a call does what it is asked.
 pub fn number(answer: Result<(), Refusal>) -> u32

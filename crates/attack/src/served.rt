@@ -4,7 +4,6 @@ ghost use Rattle.std.specs.Prelude.{◌≡◌, length};
 use crate::cut::{message, nonce, row};
 use crate::job::{KEY, NOTE, first_bytes, part};
 use crate::tally::Tally;
-use answers::done;
 use held::receiver::HeldReceiver;
 use places::terms::Terms;
 use rules::SEGMENT;
@@ -52,7 +51,7 @@ fn taken(s: Served, last: bool, sealed: &[u8], out: &mut [u8], own: &[u8]) -> Se
     let step = before.take(&NOTE, last, sealed, out);
     let answer = step.answer;
     let receiver = step.receiver;
-    if done(answer) {
+    if answer.is_ok() {
         let honest = s.honest & same(out, message(own, s.segments));
         Served {
             receiver,

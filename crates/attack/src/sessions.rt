@@ -9,7 +9,6 @@ use crate::offers::offered;
 use crate::random::{SEED, next_job, next_piece};
 use crate::tally::Tally;
 use crate::ways::{End, Way, ending, foreign_nonce, jobs};
-use answers::done;
 use held::Held;
 use places::Part;
 use places::terms::Edition;
@@ -186,7 +185,7 @@ fn piece(run: Run, said: Edition, of: Part, offset: usize, bytes: &[u8], own: &[
     let step = session.piece(label(said, of, offset), bytes, &mut [0u8; 0]);
     let answer = step.answer;
     let next = step.session;
-    if done(answer) {
+    if answer.is_ok() {
         let more = accepted.more(of, bytes, text(own));
         Run {
             session: next,
@@ -218,5 +217,5 @@ fn verdict(run: Run, said: Edition, given: &[u8], own_close: bool, own: &[u8]) -
     let step = session.close(said, given, &mut [0u8; 0]);
     let answer = step.answer;
     let unmixed = accepted.whole() & own_close & same(given, tag(own));
-    Tally::one_job(unmixed, done(answer))
+    Tally::one_job(unmixed, answer.is_ok())
 }

@@ -1,7 +1,7 @@
 // What one call and pieces give.
 use crate::job::{Line, Way, Work, run};
 use crate::say::{say, say_line, say_number};
-use answers::{Answer, number};
+use answers::{Refusal, number};
 use std::io;
 use texts::same;
 
@@ -24,7 +24,11 @@ pub(crate) fn compare(
     }
 }
 
-fn say_answers(rt: &impl Print, one_call: Answer, pieces: Answer) -> io::Result<()> {
+fn say_answers(
+    rt: &impl Print,
+    one_call: Result<(), Refusal>,
+    pieces: Result<(), Refusal>,
+) -> io::Result<()> {
     say(rt, "answers ")?;
     say_number(rt, number(one_call) as u64)?;
     say(rt, " and ")?;

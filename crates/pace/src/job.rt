@@ -2,7 +2,7 @@
 ghost use Rattle.std.specs.Prelude.{◌<◌, ◌≤◌};
 
 use crate::{one_call, w32, w64};
-use answers::Answer;
+use answers::Refusal;
 use places::terms::{Edition, Terms};
 use places::{Label, Part};
 
@@ -73,14 +73,14 @@ pub(crate) fn piece_end(at: usize, n: usize) -> usize
 }
 
 // One call seals the body into sealed, and pieces into out; sealed is what is checked, and one call opens it into out.
-pub(crate) fn run(line: Line, way: Way, body: &[u8], sealed: &mut [u8], out: &mut [u8]) -> Answer {
+pub(crate) fn run(line: Line, way: Way, body: &[u8], sealed: &mut [u8], out: &mut [u8]) -> Result<(), Refusal> {
     match way {
         Way::OneCall => one_call::run(line, body, sealed, out),
         Way::Pieces => in_pieces(line, body, sealed, out),
     }
 }
 
-fn in_pieces(line: Line, body: &[u8], sealed: &[u8], out: &mut [u8]) -> Answer {
+fn in_pieces(line: Line, body: &[u8], sealed: &[u8], out: &mut [u8]) -> Result<(), Refusal> {
     if line.width == 32 {
         w32::run(line, body, sealed, out)
     } else {

@@ -1,7 +1,6 @@
 // How long one call and pieces take.
 use crate::job::{Line, Way, run};
 use crate::say::{say, say_line, say_number};
-use answers::done;
 use std::io;
 use std::time::{CpuClock, Duration};
 
@@ -88,7 +87,7 @@ fn timed(
     let begin = now(rt);
     let answer = run(line, way, body, sealed, out);
     let end = now(rt);
-    if done(answer) {
+    if answer.is_ok() {
         passed(begin, end)
     } else {
         LONGEST

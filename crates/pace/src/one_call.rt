@@ -2,11 +2,11 @@
 ghost use Rattle.std.specs.Prelude.{◌≤◌};
 
 use crate::job::{EDITION, KEY, Line, NONCE, Work};
-use answers::Answer;
+use answers::Refusal;
 use places::front::front;
 use rules::{w32, w64};
 
-pub(crate) fn run(line: Line, body: &[u8], sealed: &mut [u8], out: &mut [u8]) -> Answer {
+pub(crate) fn run(line: Line, body: &[u8], sealed: &mut [u8], out: &mut [u8]) -> Result<(), Refusal> {
     let work = line.work;
     match work {
         Work::Seal => seal(line, body, sealed),
@@ -22,7 +22,7 @@ fn row(width: u32) -> usize
 }
 
 // The header is that of a session without a note.
-fn seal(line: Line, body: &[u8], sealed: &mut [u8]) -> Answer {
+fn seal(line: Line, body: &[u8], sealed: &mut [u8]) -> Result<(), Refusal> {
     let n = row(line.width);
     let header = front(EDITION);
     let outcome = sealing::seal(
@@ -39,9 +39,9 @@ fn seal(line: Line, body: &[u8], sealed: &mut [u8]) -> Answer {
 }
 
 // Opens a text whose body has n bytes.
-fn open(line: Line, sealed: &[u8], n: usize, out: &mut [u8]) -> Answer {
+fn open(line: Line, sealed: &[u8], n: usize, out: &mut [u8]) -> Result<(), Refusal> {
     if out.len() < n {
-        return Answer::OutputLength;
+        return Err(Refusal::OutputLength);
     }
     let row = row(line.width);
     let header = front(EDITION);

@@ -2,7 +2,6 @@
 use crate::gateway::{close, piece, start};
 use crate::job::{KEY, NOTE, ROUNDS, TRAILER};
 use crate::told::{say, say_answer, say_lines};
-use answers::done;
 use places::Part;
 use places::terms::Edition;
 use std::io;
@@ -91,8 +90,7 @@ pub(crate) fn told_truly(rt: &impl Print, text: &[u8], tag: &[u8]) -> io::Result
     let s = piece(rt, s, JOB_7, Part::Note, 0, &NOTE, "the note")?;
     let s = piece(rt, s, JOB_7, Part::Body, 0, text, "the text of 7/3")?;
     let step = close(rt, s, JOB_7, tag, "the tag of 7/3")?;
-    let answer = step.answer;
-    Ok(done(answer))
+    Ok(step.answer.is_ok())
 }
 
 // The same where each piece, and the close, says that it is of the session's own edition.
@@ -123,8 +121,7 @@ fn whole(
     let s = piece(rt, s, JOB_8, Part::Body, 0, text, of_text)?;
     let s = piece(rt, s, JOB_8, Part::Trailer, 0, &TRAILER, "the trailer")?;
     let step = close(rt, s, JOB_8, tag, of_tag)?;
-    let answer = step.answer;
-    Ok(done(answer))
+    Ok(step.answer.is_ok())
 }
 
 // What was shown, if each text fared as it must.

@@ -1,7 +1,7 @@
 // The office: it seals an edition of a job.
 use crate::job::{KEY, NOTE, TRAILER, label, terms};
 use crate::told::{say, say_edition, say_number};
-use answers::{Answer, number};
+use answers::{Refusal, number};
 use places::Part;
 use places::terms::Edition;
 use session64::seal::Sealing;
@@ -59,7 +59,7 @@ fn piece(
 }
 
 // The name of a call, and the number of its answer.
-fn say_call(rt: &impl Print, call: &str, answer: Answer) -> io::Result<()> {
+fn say_call(rt: &impl Print, call: &str, answer: Result<(), Refusal>) -> io::Result<()> {
     say(rt, call)?;
     say_number(rt, number(answer) as u64)
 }

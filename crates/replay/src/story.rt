@@ -5,7 +5,6 @@ use crate::job::{
 };
 use crate::old_seal::{checksum, look};
 use crate::told::{say, say_lines};
-use answers::done;
 use places::Part;
 use std::io;
 
@@ -82,8 +81,7 @@ pub(crate) fn second_fetch(
     let s = piece(rt, s, TWELVE, Part::Body, HALF, second, "second half of 12")?;
     let s = piece(rt, s, TWELVE, Part::Trailer, 0, &TRAILER, "the trailer")?;
     let step = close(rt, s, TWELVE, tag, "the tag of 12")?;
-    let answer = step.answer;
-    Ok(done(answer))
+    Ok(step.answer.is_ok())
 }
 
 // The old seal says good to both halves of the mixed job.
@@ -135,7 +133,7 @@ pub(crate) fn mixed(
         second,
         "second half of 12",
     )?;
-    Ok(done(new_answer) | done(old_answer))
+    Ok(new_answer.is_ok() | old_answer.is_ok())
 }
 
 // What was shown, if the two jobs fared as they must.

@@ -1,5 +1,5 @@
 // What is printed: texts, numbers, editions, parts, and the words of an answer.
-use answers::{Answer, number};
+use answers::{Refusal, number};
 use places::Part;
 use places::terms::Edition;
 use std::io;
@@ -45,35 +45,22 @@ pub(crate) fn say_part(rt: &impl Print, part: Part) -> io::Result<()> {
 }
 
 // The number of an answer and what it means, at the end of a line.
-pub(crate) fn say_answer(rt: &impl Print, answer: Answer) -> io::Result<()> {
+pub(crate) fn say_answer(rt: &impl Print, answer: Result<(), Refusal>) -> io::Result<()> {
     say_result(rt, answer)?;
     say(rt, "\n")
 }
 
 // The same where the line goes on.
-pub(crate) fn say_result(rt: &impl Print, answer: Answer) -> io::Result<()> {
+pub(crate) fn say_result(rt: &impl Print, answer: Result<(), Refusal>) -> io::Result<()> {
     say(rt, " -> ")?;
     say_number(rt, number(answer) as u64)?;
     say(rt, ", ")?;
     say_meaning(rt, answer)
 }
 
-fn say_meaning(rt: &impl Print, answer: Answer) -> io::Result<()> {
+fn say_meaning(rt: &impl Print, answer: Result<(), Refusal>) -> io::Result<()> {
     match answer {
-        Answer::Done => say(rt, "done"),
-        Answer::KeyLength => say(rt, "refused: the key or the nonce has another length"),
-        Answer::RoundsNumber => say(rt, "refused: the rounds are not 4 or 6"),
-        Answer::TagLength => say(rt, "refused: the tag has another length"),
-        Answer::OverLimit => say(rt, "refused: the part would be too long"),
-        Answer::OutputLength => say(rt, "refused: the output has another length"),
-        Answer::OtherRevision => say(rt, "refused: not the session's revision"),
-        Answer::EarlierPart => say(rt, "refused: that part has ended"),
-        Answer::OtherOffset => say(rt, "refused: not the next offset"),
-        Answer::NotSound => say(rt, "refused: session closed or not sound"),
-        Answer::TagDiffers => say(rt, "refused: the tag differs"),
-        Answer::WidthNumber => say(rt, "refused: the width is not 32 or 64"),
-        Answer::OtherJob => say(rt, "refused: not the session's job"),
-        Answer::SegmentLength => say(rt, "refused: not the length of that segment"),
-        Answer::AfterLast => say(rt, "refused: a segment after the last"),
+        Ok(()) => say(rt, "done"),
+        Err(refusal) => print!(rt; "refused: {refusal}"),
     }
 }

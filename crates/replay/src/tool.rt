@@ -2,7 +2,7 @@
 use crate::job::{KEY, NOTE, terms};
 use crate::room::{UNTOUCHED, all_are, first, segment};
 use crate::told::{say, say_answer, say_edition, say_number, say_result};
-use answers::{Answer, done};
+use answers::Refusal;
 use places::terms::Edition;
 use rules::w64::TAG;
 use segments::receiver64::Receiver;
@@ -23,7 +23,7 @@ pub(crate) fn start(rt: &impl Print, nonce: &[u8], edition: Edition) -> io::Resu
     let answer = step.answer;
     say_answer(rt, answer)?;
     let receiver = step.receiver;
-    let right = done(answer);
+    let right = answer.is_ok();
     Ok(Tool { receiver, right })
 }
 
@@ -80,8 +80,13 @@ fn say_offer(rt: &impl Print, last: bool, name: &str) -> io::Result<()> {
 }
 
 // What was served, at the end of a line; whether it is what is due.
-fn say_served(rt: &impl Print, answer: Answer, out: &[u8], due: &[u8]) -> io::Result<bool> {
-    if done(answer) {
+fn say_served(
+    rt: &impl Print,
+    answer: Result<(), Refusal>,
+    out: &[u8],
+    due: &[u8],
+) -> io::Result<bool> {
+    if answer.is_ok() {
         say(rt, "; served ")?;
         say_number(rt, out.len() as u64)?;
         say(rt, " bytes\n")?;
