@@ -1,32 +1,17 @@
 -- The runs that an answer reports: all of them with 0 and 10, and none with any other number.
 -- Assumes nothing.
 use mathlib.Core.Path.{◌≡◌, sym, ap, ap₂, ◌∙◌}
-use mathlib.Core.Bool.{Bool, true, false, ◌||◌}
+use mathlib.Core.Bool.{Bool, ◌||◌}
 use mathlib.Core.Logic.{◌≢◌, ◌⊎◌, inl, inr, ⊎_elim}
 use Prim.Native.Nat.{ℕ, ◌≤◌}
 use native.Mathlib.Omega.{arith}
 use borrow.Author.Tests.{eq-eqb, ne_eqb, eqb-true, eqb-false}
 use lib.Dec.{eqb}
-use Rattle.answers.specs.declared.Answer.{Answer}
 use Rattle.answers.specs.declared.Outcome.{Outcome}
-use Rattle.answers.specs.Answers.{number_of, runs_with}
+use Rattle.answers.specs.Answers.{Answer, number_of, runs_with}
 use Rattle.answers.proofs.Tests.{either, cond_true, cond_false}
 use Rattle.answers.proofs.Chain.{or_true}
 
-abbrev looked : ℕ → Bool
-looked k = eqb k 0 || eqb k 10
-
--- from a test of the answer's number, as code makes it
-module _ (a : Answer) (n : ℕ) {k : ℕ} where
-  pub all_reported : k ≡ number_of a → (eqb k 0 || eqb k 10) ≡ true → runs_with a n ≡ n
-  unfolding runs_with
-  all_reported e h = cond_true _ n 0 (ap looked (sym e) ∙ h)
-
-  pub none_reported : k ≡ number_of a → (eqb k 0 || eqb k 10) ≡ false → runs_with a n ≡ 0
-  unfolding runs_with
-  none_reported e h = cond_false _ n 0 (ap looked (sym e) ∙ h)
-
--- from the answer's number itself
 module _ (a : Answer) (n : ℕ) where
   pub reported_with : (number_of a ≡ 0) ⊎ (number_of a ≡ 10) → runs_with a n ≡ n
   unfolding runs_with

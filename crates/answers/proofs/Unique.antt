@@ -8,9 +8,6 @@ use borrow.Fn.Kinds.{ended_of}
 use Rattle.answers.specs.contracts.number.{signature as signature-number}
 use Rattle.answers.proofs.number.Kinds as kinds-number
 use Rattle.answers.proofs.number.Reads.{Post as Post-number}
-use Rattle.answers.specs.contracts.done.{signature as signature-done}
-use Rattle.answers.proofs.done.Kinds as kinds-done
-use Rattle.answers.proofs.done.Reads.{Post as Post-done}
 use Rattle.answers.specs.contracts.need.{signature as signature-need}
 use Rattle.answers.proofs.need.Kinds as kinds-need
 use Rattle.answers.proofs.need.Reads.{Post as Post-need}
@@ -21,10 +18,6 @@ use Rattle.answers.proofs.reported.Reads.{Post as Post-reported}
 pub one_number : (κs : Lfts 0) (a : ArgsD signature-number κs) (r r' : ResD signature-number κs) (s s' : AtExit (ended_of 0 kinds-number.ps kinds-number.r) κs)
     → Post-number κs a r s → Post-number κs a r' s' → r ≡ r'
 one_number κs a r r' s s' p q = p ∙ sym q
-
-pub one_done : (κs : Lfts 0) (a : ArgsD signature-done κs) (r r' : ResD signature-done κs) (s s' : AtExit (ended_of 0 kinds-done.ps kinds-done.r) κs)
-    → Post-done κs a r s → Post-done κs a r' s' → r ≡ r'
-one_done κs a r r' s s' p q = p ∙ sym q
 
 pub one_need : (κs : Lfts 0) (a : ArgsD signature-need κs) (r r' : ResD signature-need κs) (s s' : AtExit (ended_of 0 kinds-need.ps kinds-need.r) κs)
     → Post-need κs a r s → Post-need κs a r' s' → r ≡ r'

@@ -1,14 +1,16 @@
-// The answers that every call gives, their numbers, the order of refusals, and the runs of P that are reported with an answer.
+// Why a call refuses, the numbers of the answers, the order of refusals, and the runs of P that are reported with an answer.
 #![tactic(auto)]
 
-ghost use Rattle.std.specs.Prelude.{◌≡◌};
-ghost use Rattle.answers.specs.Answers.{number_of, done_of, need_of, reported_of};
+ghost use Rattle.std.specs.Prelude.{◌≡◌, Ok};
+ghost use Rattle.answers.specs.Answers.{number_of, need_of, reported_of};
 
-// Done, or the cause of the refusal.
-#[derive(Clone, Copy)]
-pub enum Answer {
-    Done,
-    KeyLength,
+use std::error::Error;
+use std::fmt;
+
+// The cause of a refusal, with its number.
+#[derive(Clone, Copy, Debug, PartialEq, Eq)]
+pub enum Refusal {
+    KeyLength = 1,
     RoundsNumber,
     TagLength,
     OverLimit,
@@ -24,58 +26,61 @@ pub enum Answer {
     AfterLast,
 }
 
-// The number of an answer, as the table of answers gives it.
-pub fn number(a: Answer) -> u32
-    ensures { result ≡ number_of a }
-{
-    match a {
-        Answer::Done => 0,
-        Answer::KeyLength => 1,
-        Answer::RoundsNumber => 2,
-        Answer::TagLength => 3,
-        Answer::OverLimit => 4,
-        Answer::OutputLength => 5,
-        Answer::OtherRevision => 6,
-        Answer::EarlierPart => 7,
-        Answer::OtherOffset => 8,
-        Answer::NotSound => 9,
-        Answer::TagDiffers => 10,
-        Answer::WidthNumber => 11,
-        Answer::OtherJob => 12,
-        Answer::SegmentLength => 13,
-        Answer::AfterLast => 14,
+impl fmt::Display for Refusal {
+    fn fmt<W: fmt::Write>(&self, f: &mut fmt::Formatter<W>) -> fmt::Result {
+        f.write_str(match self {
+            Refusal::KeyLength => "the key or the nonce has another length",
+            Refusal::RoundsNumber => "the rounds are not 4 or 6",
+            Refusal::TagLength => "the tag has another length",
+            Refusal::OverLimit => "the part would be too long",
+            Refusal::OutputLength => "the output has another length",
+            Refusal::OtherRevision => "not the session's revision",
+            Refusal::EarlierPart => "that part has ended",
+            Refusal::OtherOffset => "not the next offset",
+            Refusal::NotSound => "session closed or not sound",
+            Refusal::TagDiffers => "the tag differs",
+            Refusal::WidthNumber => "the width is not 32 or 64",
+            Refusal::OtherJob => "not the session's job",
+            Refusal::SegmentLength => "not the length of that segment",
+            Refusal::AfterLast => "a segment after the last",
+        })
     }
 }
 
-// Whether an answer is no refusal.
-pub fn done(a: Answer) -> bool
-    ensures { result ≡ done_of a }
+impl Error for Refusal {}
+
+// The number of an answer, as the table of answers gives it: 0 where a call does what it is asked.
+pub fn number(answer: Result<(), Refusal>) -> u32
+    ensures { result ≡ number_of answer }
 {
-    number(a) == 0
+    match answer {
+        Ok(()) => 0,
+        Err(refusal) => refusal as u32,
+    }
 }
 
-// One link of the chain of refusals: the refusal where its test fails, else what the rest of the chain gives.
-pub fn need(ok: bool, refusal: Answer, rest: Answer) -> Answer
-    ensures { result ≡ need_of ok refusal rest }
+// One link of a chain of refusals: the refusal where its test fails.
+#[tactic(auto, unfolding(crate::specs::Answers::need_of))]
+pub fn need(ok: bool, refusal: Refusal) -> Result<(), Refusal>
+    ensures { result ≡ need_of ok refusal (Ok tt) }
 {
-    if ok { rest } else { refusal }
+    if ok { Ok(()) } else { Err(refusal) }
 }
 
 // What a call answers, and how many times P ran for it.
 #[derive(Clone, Copy)]
 pub struct Outcome {
-    pub answer: Answer,
+    pub answer: Result<(), Refusal>,
     pub runs: u32,
 }
 
-// An answer with what it reports of the runs: all of them with 0 and 10, and none with any other refusal.
-pub fn reported(answer: Answer, runs: u32) -> Outcome
+// An answer with what it reports of the runs: all of them where the call is done or the tag differs, and none with any other refusal.
+#[tactic(auto, unfolding(crate::specs::Answers::runs_with))]
+pub fn reported(answer: Result<(), Refusal>, runs: u32) -> Outcome
     ensures { result ≡ reported_of answer runs }
 {
-    let n = number(answer);
-    if (n == 0) | (n == 10) {
-        Outcome { answer, runs }
-    } else {
-        Outcome { answer, runs: 0 }
+    match answer {
+        Ok(()) | Err(Refusal::TagDiffers) => Outcome { answer, runs },
+        Err(_) => Outcome { answer, runs: 0 },
     }
 }

@@ -2,7 +2,6 @@
 use crate::cut::{Job, key, row};
 use crate::job::NOTE;
 use crate::tally::Tally;
-use answers::done;
 use held::receiver::HeldReceiver;
 use rules::SEGMENT;
 
@@ -34,7 +33,7 @@ impl<'a> Served<'a> {
         let out = &mut room[..n.min(SEGMENT)];
         let step = self.receiver.take(&NOTE, last, sealed, out);
         self.receiver = step.receiver;
-        if done(step.answer) {
+        if step.answer.is_ok() {
             self.honest = self.honest && &*out == self.own.message(self.segments);
             self.segments = self.segments.saturating_add(1);
         }

@@ -7,7 +7,6 @@ use crate::offers::{Offer, offered};
 use crate::random::{SEED, next_job, next_piece};
 use crate::tally::Tally;
 use crate::ways::{End, WAYS, Way};
-use answers::done;
 use held::Held;
 use places::{Label, Part};
 use std::io;
@@ -114,7 +113,7 @@ impl<'a> Run<'a> {
         }
         let step = self.session.piece(label, bytes, &mut []);
         self.session = step.session;
-        if done(step.answer) {
+        if step.answer.is_ok() {
             self.accepted.take(label.part, bytes, self.pair.own);
         }
     }
@@ -127,6 +126,6 @@ impl<'a> Run<'a> {
         let tag = self.pair.whose(end.foreign_tag).tag();
         let step = self.session.close(said, tag, &mut []);
         let unmixed = self.accepted.whole() && !end.foreign_close && tag == own.tag();
-        Tally::one_job(unmixed, done(step.answer))
+        Tally::one_job(unmixed, step.answer.is_ok())
     }
 }

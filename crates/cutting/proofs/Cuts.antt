@@ -3,7 +3,7 @@
 use mathlib.Core.Path.{◌≡◌, refl, sym, ap, ◌∙◌}
 use mathlib.Core.List.{◌∷◌}
 use mathlib.Core.Logic.{◌⊎◌, inl, inr, ⊎_elim}
-use mathlib.Core.Bool.{Bool, true, false, ◌&&◌, ◌||◌, cond}
+use mathlib.Core.Bool.{true, false, ◌&&◌, ◌||◌, cond}
 use Prim.Native.Nat.{ℕ, zero, suc, ◌+◌, ◌*◌, ◌/◌, ◌%◌, ◌≤◌, ◌<◌}
 use native.Mathlib.Omega.{arith}
 use native.Mathlib.Nat.{mul_assoc}
@@ -14,7 +14,7 @@ use Rattle.norx.specs.Front.{eight_bytes}
 use Rattle.rules.specs.Rules.{segment_bytes, most_segments}
 use Rattle.answers.proofs.Tests.{either, cond_true, cond_false}
 use Rattle.answers.proofs.Chain.{both, and_true, one_of, or_true}
-use Rattle.cutting.specs.Cutting.{count_of, begin_of, end_of, segment_ok, segment_number}
+use Rattle.cutting.specs.Cutting.{count_of, begin_of, end_of, segment_ok}
 
 -- i segments are in n bytes or not
 pub full_within : (n i : ℕ) → i * segment_bytes ≤ n → cond (leb (i * segment_bytes) n) (i * segment_bytes) n ≡ i * segment_bytes
@@ -22,15 +22,6 @@ full_within n i h = cond_true _ _ _ (le-leb _ _ h)
 
 pub full_beyond : (n i : ℕ) → n < i * segment_bytes → cond (leb (i * segment_bytes) n) (i * segment_bytes) n ≡ n
 full_beyond n i h = cond_false _ _ _ (lt-leb _ _ h)
-
--- the number in a nonce, in 64 bits
-pub number_last : (i : ℕ) {last : Bool} → last ≡ true → i % 9223372036854775808 * 2 + 1 ≡ segment_number i last % 18446744073709551616
-unfolding segment_number
-number_last i e = rw e (omega arith)
-
-pub number_other : (i : ℕ) {last : Bool} → last ≡ false → i % 9223372036854775808 * 2 ≡ segment_number i last % 18446744073709551616
-unfolding segment_number
-number_other i e = rw e (omega arith)
 
 -- k bytes have no more of a number than what is below 256 to the k
 unfoldable above : ℕ → ℕ

@@ -1,9 +1,8 @@
 -- How a job is cut into segments, which length a segment has, and where a receiver waits: all by numbers.
 -- Assumes nothing.
 use Rattle.std.specs.Prelude.{ℕ, ◌+◌, ◌-◌, ◌*◌, ◌/◌, Bool, false, ◌&&◌, ◌||◌, not, cond, leb, ltb, eqb}
-use Rattle.answers.specs.declared.Answer.{Answer}
-use Rattle.answers.specs.declared.Answer.TheVariants.{SegmentLength, AfterLast}
-use Rattle.answers.specs.Answers.{done_of, need_of}
+use Rattle.answers.specs.declared.Refusal.TheVariants.{SegmentLength, AfterLast}
+use Rattle.answers.specs.Answers.{Answer, done_of, need_of}
 use Rattle.rules.specs.Rules.{segment_bytes, most_segments}
 use Rattle.cutting.specs.declared.Waiting.{Waiting}
 

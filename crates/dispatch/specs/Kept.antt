@@ -1,7 +1,7 @@
 -- What the call of a number gives on all that a program keeps, a session and a receiver: each call leaves the other as it was.
 -- Assumes nothing.
+use Rattle.answers.specs.Answers.{Answer}
 use Rattle.std.specs.Prelude.{ℕ, cond, List, eqb}
-use Rattle.answers.specs.declared.Answer.{Answer}
 use Rattle.answers.specs.declared.Outcome.{Outcome}
 use Rattle.held.specs.declared.HeldStep.{HeldStep}
 use Rattle.held.specs.declared.receiver.HeldReceiverStep.{HeldReceiverStep}

@@ -1,7 +1,7 @@
 -- What each call on segments, receivers and lists gives whose arguments are plain numbers and stretches of one memory, on all inputs: what the library's own call gives.
 -- Assumes nothing.
+use Rattle.answers.specs.Answers.{Answer}
 use Rattle.std.specs.Prelude.{ℕ, Bool, List, eqb}
-use Rattle.answers.specs.declared.Answer.{Answer}
 use Rattle.answers.specs.declared.Outcome.{Outcome}
 use Rattle.places.specs.declared.terms.Terms.{Terms}
 use Rattle.cutting.specs.declared.Waiting.{Waiting}

@@ -3,7 +3,7 @@ ghost use Rattle.std.specs.Prelude.{◌≡◌};
 ghost use Rattle.dispatch.specs.Segments.{segment_call, segment_call_out, receiver_call, take_call, take_call_out, put_receiver_call, list_call, list_call_out};
 
 use crate::{Words, low, stretch, terms};
-use answers::{Answer, Outcome};
+use answers::{Outcome, Refusal};
 use cutting::Waiting;
 use held::receiver::{HeldReceiver, HeldReceiverStep};
 
@@ -62,7 +62,7 @@ pub fn put(a: Words, held: HeldReceiver) -> HeldReceiver
 }
 
 // Writes a list: job, revision, bytes of the body.
-pub fn list(a: Words, out: &mut [u8]) -> Answer
+pub fn list(a: Words, out: &mut [u8]) -> Result<(), Refusal>
     ensures answer { result ≡ list_call a out.old }
     ensures output { out.new ≡ list_call_out a out.old }
 {

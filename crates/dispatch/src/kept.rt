@@ -4,7 +4,7 @@ ghost use Rattle.dispatch.specs.Kept.{kept_receiver, kept_session, kept_call, ke
 
 use crate::jobs::{list, receiver, segment, take};
 use crate::{Words, make};
-use answers::Answer;
+use answers::Refusal;
 use held::receiver::{HeldReceiver, HeldReceiverStep};
 use held::{Held, HeldStep};
 
@@ -17,7 +17,7 @@ pub struct Kept {
 // What a call answers, the runs of P that it reports, which are 0 of a call that reports none, and what is kept then.
 #[derive(Clone, Copy)]
 pub struct KeptStep {
-    pub answer: Answer,
+    pub answer: Result<(), Refusal>,
     pub runs: u32,
     pub kept: Kept,
 }

@@ -1,7 +1,7 @@
 // Seals a job of two lines for revision 12 of job 7, a piece for each line, and checks it in pieces that are cut elsewhere.
 #![tactic(auto)]
 
-use answers::{Answer, number};
+use answers::{Refusal, number};
 use places::terms::{Edition, Terms};
 use places::{Label, Part};
 use session64::check::{Checking, CheckingStep};
@@ -33,29 +33,29 @@ fn body(offset: usize) -> Label {
     }
 }
 
-// Seals the job into the text and its tag; gives Done, or the first refusal and goes no further.
-fn seal(text: &mut [u8], tag: &mut [u8; 32]) -> Answer {
+// Seals the job into the text and its tag; gives the first refusal and goes no further.
+fn seal(text: &mut [u8], tag: &mut [u8; 32]) -> Result<(), Refusal> {
     let half = text.len() / 2;
     let SealingStep { answer, session } = Sealing::start(&KEY, &NONCE, TERMS);
-    let Answer::Done = answer else { return answer };
+    answer?;
     let SealingStep { answer, session } = session.piece(body(0), b"G1 X10\n", &mut text[..half]);
-    let Answer::Done = answer else { return answer };
+    answer?;
     let SealingStep { answer, session } = session.piece(body(half), b"G1 Y20\n", &mut text[half..]);
-    let Answer::Done = answer else { return answer };
+    answer?;
     session.close(EDITION, tag).answer
 }
 
-// Checks the text in other pieces; gives Done only where it has this tag.
-fn check(rt: &impl Print, text: &[u8], tag: &[u8; 32]) -> io::Result<Answer> {
+// Checks the text in other pieces; the answer is Ok only where it has this tag.
+fn check(rt: &impl Print, text: &[u8], tag: &[u8; 32]) -> io::Result<Result<(), Refusal>> {
     let third = text.len() / 3;
     let CheckingStep { answer, session } = Checking::start(&KEY, &NONCE, TERMS);
-    let Answer::Done = answer else {
-        return Ok(answer)
-    };
+    if answer.is_err() {
+        return Ok(answer);
+    }
     let CheckingStep { answer, session } = session.piece(body(0), &text[..third]);
-    let Answer::Done = answer else {
-        return Ok(answer)
-    };
+    if answer.is_err() {
+        return Ok(answer);
+    }
     // A piece that comes twice is refused, and the session is given back as it was.
     let CheckingStep { answer, session } = session.piece(body(0), &text[..third]);
     tell(
@@ -64,14 +64,14 @@ fn check(rt: &impl Print, text: &[u8], tag: &[u8; 32]) -> io::Result<Answer> {
         answer,
     )?;
     let CheckingStep { answer, session } = session.piece(body(third), &text[third..]);
-    let Answer::Done = answer else {
-        return Ok(answer)
-    };
+    if answer.is_err() {
+        return Ok(answer);
+    }
     Ok(session.close(EDITION, tag).answer)
 }
 
 // Prints what was called, and the number of its answer.
-fn tell(rt: &impl Print, call: &str, answer: Answer) -> io::Result<()> {
+fn tell(rt: &impl Print, call: &str, answer: Result<(), Refusal>) -> io::Result<()> {
     println!(rt; "{call}{}", number(answer))
 }
 
@@ -80,9 +80,13 @@ fn main(rt: HostRuntime) -> io::Result<()> {
     let mut tag = [0u8; 32];
     let sealed = seal(&mut text, &mut tag);
     tell(&rt, "sealing: ", sealed)?;
-    let Answer::Done = sealed else { return Ok(()) };
+    if sealed.is_err() {
+        return Ok(());
+    }
     let checked = check(&rt, &text, &tag)?;
     tell(&rt, "checking: ", checked)?;
-    let Answer::Done = checked else { return Ok(()) };
+    if checked.is_err() {
+        return Ok(());
+    }
     rt.println("the job is good")
 }

@@ -4,7 +4,7 @@
 ghost use Rattle.std.specs.Prelude.{◌≡◌};
 ghost use Rattle.held.specs.Held.{closed_held, held_start, held_piece, held_piece_out, held_close, held_tag, held_word};
 
-use answers::Answer;
+use answers::Refusal;
 use places::terms::{Edition, Terms};
 use places::{Label, Place, closed_place};
 
@@ -27,7 +27,7 @@ pub struct Held {
 // What a call answers, the runs of P that a close reports, which are 0 of any other call, and the session to go on with.
 #[derive(Clone, Copy)]
 pub struct HeldStep {
-    pub answer: Answer,
+    pub answer: Result<(), Refusal>,
     pub runs: u32,
     pub session: Held,
 }

@@ -2,7 +2,7 @@
 ghost use Rattle.std.specs.Prelude.{◌≡◌};
 ghost use Rattle.held.specs.Receivers.{held_none, held_started, held_taken, held_taken_out, held_waiting, held_put};
 
-use answers::Answer;
+use answers::Refusal;
 use cutting::Waiting;
 use places::terms::Terms;
 use segments::{receiver32, receiver64};
@@ -18,7 +18,7 @@ pub struct HeldReceiver {
 // What a call answers, the runs of P that taking a segment reports, which are 0 of a start, and the receiver to go on with.
 #[derive(Clone, Copy)]
 pub struct HeldReceiverStep {
-    pub answer: Answer,
+    pub answer: Result<(), Refusal>,
     pub runs: u32,
     pub receiver: HeldReceiver,
 }

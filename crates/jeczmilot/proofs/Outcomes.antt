@@ -3,9 +3,8 @@
 use mathlib.Core.Path.{◌≡◌, ap, ap₂, ◌∙◌}
 use mathlib.Core.List.{List}
 use Prim.Native.Nat.{ℕ}
-use Rattle.answers.specs.declared.Answer.{Answer}
 use Rattle.answers.specs.declared.Outcome.{Outcome}
-use Rattle.answers.specs.Answers.{number_of}
+use Rattle.answers.specs.Answers.{Answer, number_of}
 use Rattle.jeczmilot.specs.declared.OutcomeNumbers.{OutcomeNumbers}
 use Rattle.jeczmilot.specs.Numbers.{outcome_numbers}
 

@@ -10,7 +10,6 @@ use native.Mathlib.Omega.{arith}
 use lib.ListN.{length, length-append}
 use Rattle.std.specs.Prelude.{Ok, Err}
 use Rattle.std.proofs.lemmas.Bool.{cases_lt}
-use Rattle.answers.specs.declared.Answer.TheVariants.{Done}
 use Rattle.answers.specs.Answers.{done_of}
 use Rattle.cutting.specs.Cutting.{count_of}
 use Rattle.lists.specs.Lists.{line_text, list_text, IsList}
@@ -46,7 +45,7 @@ read_once t (Err a) (Err b) p q = λ i. Err (record { line = once i })
 pub list_written : (t : List ℕ) → IsList t → CanWrite t
 list_written t is =
     let L = is.3 in
-    let done : write_answer is.0 is.1 is.2 t ≡ Done = answer_done is.0 is.1 is.2 t L.within (ap length L.text) in
+    let done : write_answer is.0 is.1 is.2 t ≡ Ok tt = answer_done is.0 is.1 is.2 t L.within (ap length L.text) in
     record {
       job = is.0;
       revision = is.1;

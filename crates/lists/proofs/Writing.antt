@@ -1,8 +1,7 @@
 -- Writing part by part and line by line, how long that is, and what the writer then answers.
 -- Assumes nothing.
 use mathlib.Core.Path.{◌≡◌, refl, sym, ap, ap₂, ◌∙◌}
-use mathlib.Core.Bool.{Bool, true, false}
-use mathlib.Core.Logic.{⊎_elim}
+use mathlib.Core.Bool.{true}
 use mathlib.Core.List.{List, [], ◌∷◌, ◌++◌, append_assoc, append-nil}
 use Prim.Native.Nat.{ℕ, zero, suc, ◌+◌, ◌-◌, ◌*◌, ◌<◌, ◌≤◌, ◌^◌}
 use native.Mathlib.Omega.{arith}
@@ -12,10 +11,10 @@ use borrow.Author.Tests.{le-leb, lt-leb, leb-true, eqb-true, eq-eqb}
 use lib.Dec.{leb, eqb, lit≤}
 use lib.ListN.{length, set, take, drop, length-append, length-drop, drop_of_length-le}
 use lib.Seq.{take_all, take_at, drop-drop}
-use Rattle.answers.specs.declared.Answer.{Answer}
-use Rattle.answers.specs.declared.Answer.TheVariants.{Done, OverLimit, OutputLength}
-use Rattle.answers.specs.Answers.{done_of, need_of}
-use Rattle.answers.proofs.Tests.{either, cond_true, cond_false}
+use Rattle.std.specs.Prelude.{Ok}
+use Rattle.answers.specs.declared.Refusal.TheVariants.{OverLimit, OutputLength}
+use Rattle.answers.specs.Answers.{Answer, done_of, need_of}
+use Rattle.answers.proofs.Tests.{cond_true, cond_false}
 use Rattle.answers.proofs.Chain.{passed}
 use Rattle.rules.specs.Rules.{segment_bytes, longest_job}
 use Rattle.cutting.specs.Cutting.{count_of}
@@ -165,37 +164,22 @@ module _ (j r n : ℕ) where
   unfolding list_length
   the_length h = cond_true (leb n longest_job) (length (list_text j r n)) 0 (le-leb n longest_job h)
 
-  -- the writer's chain compares with a length that is 0 where there is no list, and is then not asked
-  pub the_answer : (out : List ℕ) {a : Answer} → a ≡ need_of (leb n longest_job) OverLimit (need_of (eqb (length out) (list_length j r n)) OutputLength Done) → a ≡ write_answer j r n out
-  unfolding write_answer need_of
-  the_answer out e =
-      ⊎_elim
-      (λ (t : leb n longest_job ≡ true).
-      e ∙ ap (λ (k : ℕ). need_of (leb n longest_job) OverLimit (need_of (eqb (length out) k) OutputLength Done)) (the_length (leb-true n longest_job t)))
-      (λ (f : leb n longest_job ≡ false).
-      e ∙ ap (λ (b : Bool). need_of b OverLimit (need_of (eqb (length out) (list_length j r n)) OutputLength Done)) f
-      ∙ sym (ap (λ (b : Bool). need_of b OverLimit (need_of (eqb (length out) (length (list_text j r n))) OutputLength Done)) f)) (either (leb n longest_job))
-
   module _ (out : List ℕ) where
     abbrev exact : Answer
-    exact = need_of (eqb (length out) (length (list_text j r n))) OutputLength Done
+    exact = need_of (eqb (length out) (length (list_text j r n))) OutputLength (Ok tt)
 
     -- what is known where the answer is 0
     pub done_within : done_of (write_answer j r n out) ≡ true → (n ≤ longest_job) × (length out ≡ length (list_text j r n))
     unfolding write_answer
     done_within e =
-        let a = passed (leb n longest_job) OverLimit exact refl e in
-        let b = passed (eqb (length out) (length (list_text j r n))) OutputLength Done refl a.1 in
+        let a = passed (leb n longest_job) OverLimit exact e in
+        let b = passed (eqb (length out) (length (list_text j r n))) OutputLength (Ok tt) a.1 in
         (leb-true n longest_job a.0, eqb-true (length out) (length (list_text j r n)) b.0)
 
-    pub answer_done : n ≤ longest_job → length out ≡ length (list_text j r n) → write_answer j r n out ≡ Done
+    pub answer_done : n ≤ longest_job → length out ≡ length (list_text j r n) → write_answer j r n out ≡ Ok tt
     unfolding write_answer need_of
     answer_done h e = rw (le-leb n longest_job h, eq-eqb (length out) (length (list_text j r n)) e) refl
 
     pub written : done_of (write_answer j r n out) ≡ true → list_text j r n ≡ write_out j r n out
     unfolding write_out
     written e = sym (cond_true (done_of (write_answer j r n out)) (list_text j r n) out e)
-
-    pub unwritten : done_of (write_answer j r n out) ≡ false → out ≡ write_out j r n out
-    unfolding write_out
-    unwritten e = sym (cond_false (done_of (write_answer j r n out)) (list_text j r n) out e)

@@ -1,9 +1,8 @@
 -- What the writer answers and leaves in the output, and the length that it asks, on all inputs.
 -- Assumes nothing.
-use Rattle.std.specs.Prelude.{◌≡◌, cond, List, ℕ, ◌<◌, ◌^◌, length, leb, eqb}
-use Rattle.answers.specs.declared.Answer.{Answer}
-use Rattle.answers.specs.declared.Answer.TheVariants.{Done, OverLimit, OutputLength}
-use Rattle.answers.specs.Answers.{done_of, need_of}
+use Rattle.std.specs.Prelude.{◌≡◌, cond, List, ℕ, ◌<◌, ◌^◌, length, leb, eqb, Ok}
+use Rattle.answers.specs.declared.Refusal.TheVariants.{OverLimit, OutputLength}
+use Rattle.answers.specs.Answers.{Answer, done_of, need_of}
 use Rattle.rules.specs.Rules.{longest_job}
 use Rattle.lists.specs.Lists.{list_text}
 
@@ -15,7 +14,7 @@ list_length job revision n = cond (leb n longest_job) (length (list_text job rev
 unfoldable pub write_answer : ℕ → ℕ → ℕ → List ℕ → Answer
 write_answer job revision n out =
     need_of (leb n longest_job) OverLimit
-    (need_of (eqb (length out) (length (list_text job revision n))) OutputLength Done)
+    (need_of (eqb (length out) (length (list_text job revision n))) OutputLength (Ok tt))
 
 -- the list where the answer is 0, and else the output as it was
 unfoldable pub write_out : ℕ → ℕ → ℕ → List ℕ → List ℕ
@@ -29,5 +28,5 @@ pub record CanWrite (t : List ℕ) : Type 0 where
   pub out : List ℕ
   pub job_fits : job < 2 ^ 64
   pub revision_fits : revision < 2 ^ 64
-  pub done : write_answer job revision body out ≡ Done
+  pub done : write_answer job revision body out ≡ Ok tt
   pub text : t ≡ write_out job revision body out

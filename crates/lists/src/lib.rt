@@ -8,7 +8,7 @@ ghost use Rattle.lists.specs.Pieces.{index_digits, lines_behind};
 ghost use Rattle.lists.specs.Written.{list_length, write_answer, write_out};
 ghost use Rattle.lists.specs.Readings.{ReadAs};
 
-use answers::{Answer, done, need};
+use answers::{Refusal, need};
 use cutting::{begin, count, end};
 use decimal::number_length;
 use rules::{LONGEST_JOB, SEGMENT};
@@ -74,20 +74,18 @@ fn index_digits(n: u64) -> usize
 }
 
 // Writes the list of a job: 4 where the body is too long, then 5 where the output has not the list's length.
-pub fn write_list(job: u64, revision: u64, body: u64, out: &mut [u8]) -> Answer
+#[tactic(auto, using(crate::proofs::Writing::the_length), unfolding(answers::specs::Answers::need_of, crate::specs::Written::write_answer, crate::specs::Written::write_out))]
+pub fn write_list(job: u64, revision: u64, body: u64, out: &mut [u8]) -> Result<(), Refusal>
     ensures answer { result ≡ write_answer job revision body out.old }
     ensures output { out.new ≡ write_out job revision body out.old }
 {
-    let exact = out.len() == list_length(job, revision, body);
-    let answer = need(
-        body <= LONGEST_JOB,
-        Answer::OverLimit,
-        need(exact, Answer::OutputLength, Answer::Done),
-    );
-    if done(answer) {
-        write_lines(job, revision, body, out);
-    }
-    answer
+    need(body <= LONGEST_JOB, Refusal::OverLimit)?;
+    need(
+        out.len() == list_length(job, revision, body),
+        Refusal::OutputLength,
+    )?;
+    write_lines(job, revision, body, out);
+    Ok(())
 }
 
 // Writes every line over an output of the list's length.

@@ -1,7 +1,7 @@
 // The buffers that the works are done on, in one call and in pieces.
 use crate::job::{BODY, Line};
 use crate::{one_call, w32, w64};
-use answers::Answer;
+use answers::Refusal;
 use std::alloc::{AllocError, Global};
 
 // One call seals the body into sealed, and pieces into out; sealed is what is checked, and one call opens it into out.
@@ -26,11 +26,11 @@ impl Buffers {
         })
     }
 
-    pub(crate) fn in_one_call(&mut self, line: Line) -> Answer {
+    pub(crate) fn in_one_call(&mut self, line: Line) -> Result<(), Refusal> {
         one_call::run(line, &self.body, &mut self.sealed, &mut self.out)
     }
 
-    pub(crate) fn in_pieces(&mut self, line: Line) -> Answer {
+    pub(crate) fn in_pieces(&mut self, line: Line) -> Result<(), Refusal> {
         if line.width == 32 {
             w32::run(line, &self.body, &self.sealed, &mut self.out)
         } else {

@@ -1,7 +1,7 @@
 // How long one call and pieces take.
 use crate::buffers::Buffers;
 use crate::job::Line;
-use answers::{Answer, done};
+use answers::Refusal;
 use std::io;
 use std::time::CpuClock;
 
@@ -57,13 +57,13 @@ fn least(best: u64, time: Option<u64>) -> u64 {
 }
 
 // How long a work takes; none where it is refused.
-fn timed<F: FnOnce() -> Answer>(rt: &impl CpuClock, work: F) -> Option<u64>
+fn timed<F: FnOnce() -> Result<(), Refusal>>(rt: &impl CpuClock, work: F) -> Option<u64>
     requires { F.IsAlwaysCallable work }
 {
     let begin = now(rt);
     let answer = work();
     let end = now(rt);
-    if done(answer) {
+    if answer.is_ok() {
         end.checked_sub(begin)
     } else {
         None

@@ -2,12 +2,17 @@
 ghost use Rattle.std.specs.Prelude.{◌≤◌};
 
 use crate::job::{EDITION, KEY, Line, NONCE, Work};
-use answers::Answer;
+use answers::Refusal;
 use places::front::front;
 use rules::{w32, w64};
 
 // The header is that of a session without a note.
-pub(crate) fn run(line: Line, body: &[u8], sealed: &mut [u8], out: &mut [u8]) -> Answer {
+pub(crate) fn run(
+    line: Line,
+    body: &[u8],
+    sealed: &mut [u8],
+    out: &mut [u8],
+) -> Result<(), Refusal> {
     let Line {
         width,
         rounds,
@@ -19,7 +24,7 @@ pub(crate) fn run(line: Line, body: &[u8], sealed: &mut [u8], out: &mut [u8]) ->
         Work::Seal => sealing::seal(width, rounds, key, nonce, &header, body, b"", sealed).answer,
         Work::Check => {
             let Some(out) = out.get_mut(..body.len()) else {
-                return Answer::OutputLength;
+                return Err(Refusal::OutputLength);
             };
             sealing::open(width, rounds, key, nonce, &header, sealed, b"", out).answer
         }

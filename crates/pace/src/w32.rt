@@ -2,14 +2,14 @@
 ghost use Rattle.std.specs.Prelude.{◌≡◌, length};
 
 use crate::job::{BODY, EDITION, KEY, Line, NONCE, Work, label, piece_end, terms};
-use answers::Answer;
+use answers::Refusal;
 use rules::w32::*;
 use session32::check::Checking;
 use session32::seal::Sealing;
 
 pub(crate) const SEALED: usize = BODY + TAG;
 
-pub(crate) fn run(line: Line, body: &[u8], sealed: &[u8], out: &mut [u8]) -> Answer {
+pub(crate) fn run(line: Line, body: &[u8], sealed: &[u8], out: &mut [u8]) -> Result<(), Refusal> {
     let work = line.work;
     match work {
         Work::Seal => seal(line.rounds, body, out),
@@ -17,10 +17,10 @@ pub(crate) fn run(line: Line, body: &[u8], sealed: &[u8], out: &mut [u8]) -> Ans
     }
 }
 
-fn seal(rounds: u32, body: &[u8], out: &mut [u8]) -> Answer {
+fn seal(rounds: u32, body: &[u8], out: &mut [u8]) -> Result<(), Refusal> {
     let n = body.len();
     if out.len() < n {
-        return Answer::OutputLength;
+        return Err(Refusal::OutputLength);
     }
     let s = seal_pieces(start_sealing(rounds), body, &mut out[0..n]);
     close_sealing(s, &mut out[n..])
@@ -51,15 +51,15 @@ fn seal_piece(s: Sealing, at: usize, bytes: &[u8], out: &mut [u8]) -> Sealing {
     step.session
 }
 
-fn close_sealing(s: Sealing, tag: &mut [u8]) -> Answer {
+fn close_sealing(s: Sealing, tag: &mut [u8]) -> Result<(), Refusal> {
     let step = s.close(EDITION, tag);
     step.answer
 }
 
 // Checks a text whose body has n bytes.
-fn check(rounds: u32, sealed: &[u8], n: usize) -> Answer {
+fn check(rounds: u32, sealed: &[u8], n: usize) -> Result<(), Refusal> {
     if sealed.len() < n {
-        return Answer::TagLength;
+        return Err(Refusal::TagLength);
     }
     let s = check_pieces(start_checking(rounds), &sealed[0..n]);
     close_checking(s, &sealed[n..])
@@ -88,7 +88,7 @@ fn check_piece(s: Checking, at: usize, bytes: &[u8]) -> Checking {
     step.session
 }
 
-fn close_checking(s: Checking, tag: &[u8]) -> Answer {
+fn close_checking(s: Checking, tag: &[u8]) -> Result<(), Refusal> {
     let step = s.close(EDITION, tag);
     step.answer
 }

@@ -7,10 +7,10 @@ use Prim.Native.Nat.{ℕ, ◌+◌, ◌≤◌}
 use native.Mathlib.Omega.{arith}
 use borrow.Author.Tests.{leb-true, le-leb, eqb-true, eq-eqb}
 use lib.Dec.{leb, eqb}
+use Rattle.std.specs.Prelude.{Ok, Err}
 use Rattle.norx.specs.Norx.{Width, row_bytes}
-use Rattle.answers.specs.declared.Answer.{Answer}
-use Rattle.answers.specs.declared.Answer.TheVariants.{Done, KeyLength, RoundsNumber, TagLength, OverLimit, OutputLength, EarlierPart, OtherOffset, NotSound, OtherJob}
-use Rattle.answers.specs.Answers.{number_of, done_of, need_of}
+use Rattle.answers.specs.declared.Refusal.TheVariants.{KeyLength, RoundsNumber, TagLength, OverLimit, OutputLength, EarlierPart, OtherOffset, NotSound, OtherJob}
+use Rattle.answers.specs.Answers.{Answer, number_of, done_of, need_of}
 use Rattle.answers.proofs.Tests.{either}
 use Rattle.answers.proofs.Chain.{done_zero, zero_done, passed, passes, link_not, both, and_true}
 use Rattle.rules.specs.Rules.{rounds_ok, lengths_ok}
@@ -63,8 +63,8 @@ sound_terms p e = terms_at p.standing p e
 pub startable : (row : ℕ) (T : Terms) (key nonce : ℕ) → done_of (start_answer row T key nonce) ≡ true → (terms_ok T ≡ true) × (key ≡ row) × (nonce ≡ row)
 unfolding start_answer
 startable row T key nonce h =
-    let rounds = passed _ _ _ refl h in
-    let lengths = both (eqb key row) (eqb nonce row) (passed _ _ _ refl rounds.1).0 in
+    let rounds = passed _ _ _ h in
+    let lengths = both (eqb key row) (eqb nonce row) (passed _ _ _ rounds.1).0 in
     (rounds.0, eqb-true key row lengths.0, eqb-true nonce row lengths.1)
 
 -- a start is answered 0 exactly where the limits are kept
@@ -74,47 +74,47 @@ start_limits w T key nonce = (from, to)
   where
     from : number_of (start_answer (row_bytes w) T key nonce) ≡ 0 → StartLimits w T.rounds key nonce
     from e =
-        let a = passed (rounds_ok T.rounds) RoundsNumber _ refl (zero_done (start_answer (row_bytes w) T key nonce) e) in
-        let b = passed (lengths_ok (row_bytes w) key nonce) KeyLength Done refl a.1 in
+        let a = passed (rounds_ok T.rounds) RoundsNumber _ (zero_done (start_answer (row_bytes w) T key nonce) e) in
+        let b = passed (lengths_ok (row_bytes w) key nonce) KeyLength (Ok tt) a.1 in
         start_from w T.rounds key nonce a.0 b.0
 
     to : StartLimits w T.rounds key nonce → number_of (start_answer (row_bytes w) T key nonce) ≡ 0
     to h =
         let s = start_to w T.rounds key nonce h in
-        done_zero (start_answer (row_bytes w) T key nonce) (passes _ _ _ s.0 (passes _ _ Done s.1 refl))
+        done_zero (start_answer (row_bytes w) T key nonce) (passes _ _ _ s.0 (passes _ _ (Ok tt) s.1 refl))
 
 pub accepted : (p : Place) (label : Label) (n : ℕ) (exact : Bool) → done_of (piece_answer p label n exact) ≡ true → Accepted p label.part n exact
 unfolding piece_answer
 accepted p label n exact h =
-    let sound = passed _ _ _ refl h in
-    let onward = passed _ _ _ refl (edition_passed label.edition p.terms.edition _ sound.1) in
-    let place = passed _ _ _ refl onward.1 in
-    let room = passed _ _ _ refl place.1 in
+    let sound = passed _ _ _ h in
+    let onward = passed _ _ _ (edition_passed label.edition p.terms.edition _ sound.1) in
+    let place = passed _ _ _ onward.1 in
+    let room = passed _ _ _ place.1 in
     record {
       sound = sound.0;
       onward = onward.0;
       noted = sound_noted p sound.0;
       termed = sound_terms p sound.0;
       room = leb-true _ _ room.0;
-      fits = (passed _ _ _ refl room.1).0;
+      fits = (passed _ _ _ room.1).0;
     }
 
 -- and it is of the session's own edition, at the accepted count of its part
 pub accepted_own : (p : Place) (label : Label) (n : ℕ) (exact : Bool) → done_of (piece_answer p label n exact) ≡ true → label.edition ≡ p.terms.edition
 unfolding piece_answer
-accepted_own p label n exact h = edition_same label.edition p.terms.edition _ (passed _ _ _ refl h).1
+accepted_own p label n exact h = edition_same label.edition p.terms.edition _ (passed _ _ _ h).1
 
 pub accepted_at : (p : Place) (label : Label) (n : ℕ) (exact : Bool) → done_of (piece_answer p label n exact) ≡ true → label.offset ≡ count_of p label.part
 unfolding piece_answer
 accepted_at p label n exact h =
-    let sound = passed _ _ _ refl h in
-    let onward = passed _ _ _ refl (edition_passed label.edition p.terms.edition _ sound.1) in
-    eqb-true _ _ (passed _ _ _ refl onward.1).0
+    let sound = passed _ _ _ h in
+    let onward = passed _ _ _ (edition_passed label.edition p.terms.edition _ sound.1) in
+    eqb-true _ _ (passed _ _ _ onward.1).0
 
 -- a piece of which all that holds is accepted
 pub accepts : (p : Place) (label : Label) (n : ℕ) (exact : Bool) → sound_of p ≡ true → label.edition ≡ p.terms.edition
     → leb (present_of p.standing) (rank_of label.part) ≡ true → label.offset ≡ count_of p label.part → count_of p label.part + n ≤ limit_of label.part
-    → exact ≡ true → piece_answer p label n exact ≡ Done
+    → exact ≡ true → piece_answer p label n exact ≡ Ok tt
 unfolding piece_answer need_of
 accepts p label n exact sound own onward at room fits =
     let here : eqb label.offset (count_of p label.part) ≡ true = eq-eqb _ _ at in
@@ -125,14 +125,14 @@ pub closable : (p : Place) (edition : Edition) (wanted tag : ℕ) → done_of (c
     → (p.note ≤ limit_of Note) × (terms_ok p.terms ≡ true) × (tag ≡ wanted)
 unfolding close_answer
 closable p edition wanted tag h =
-    let sound = passed _ _ _ refl h in
-    let within = passed _ _ _ refl (edition_passed edition p.terms.edition _ sound.1) in
-    (sound_noted p sound.0, sound_terms p sound.0, eqb-true tag wanted (passed _ _ _ refl within.1).0)
+    let sound = passed _ _ _ h in
+    let within = passed _ _ _ (edition_passed edition p.terms.edition _ sound.1) in
+    (sound_noted p sound.0, sound_terms p sound.0, eqb-true tag wanted (passed _ _ _ within.1).0)
 
 pub closable_own : (p : Place) (edition : Edition) (wanted tag : ℕ) → done_of (close_answer p edition wanted tag) ≡ true → (sound_of p ≡ true) × (edition ≡ p.terms.edition)
 unfolding close_answer
 closable_own p edition wanted tag h =
-    let sound = passed _ _ _ refl h in
+    let sound = passed _ _ _ h in
     (sound.0, edition_same edition p.terms.edition _ sound.1)
 
 -- ---- a place stays sound
@@ -176,7 +176,7 @@ module _ (p : Place) (n : ℕ) where
   moved_sound k e o room = sound_at_lem p.standing k e o room
 
 -- a sound place is closed under its own edition with a tag of the right length
-pub sound_closes : (p : Place) (wanted tag : ℕ) → sound_of p ≡ true → tag ≡ wanted → close_answer p p.terms.edition wanted tag ≡ Done
+pub sound_closes : (p : Place) (wanted tag : ℕ) → sound_of p ≡ true → tag ≡ wanted → close_answer p p.terms.edition wanted tag ≡ Ok tt
 unfolding close_answer need_of
 sound_closes p wanted tag e f =
     let within : counts_within p ≡ true = sound_within p e in
@@ -198,13 +198,13 @@ module _ (n : ℕ) (least : 9 ≤ n) (p : Place) where
       (link_not n (leb (present_of p.standing) (rank_of label.part)) EarlierPart _ (λ e. omega arith)
       (link_not n (eqb label.offset (count_of p label.part)) OtherOffset _ (λ e. omega arith)
       (link_not n (leb (count_of p label.part + k) (limit_of label.part)) OverLimit _ (λ e. omega arith)
-      (link_not n exact OutputLength Done (λ e. omega arith) (λ e. omega arith))))))
+      (link_not n exact OutputLength (Ok tt) (λ e. omega arith) (λ e. omega arith))))))
 
   close_beyond : (edition : Edition) (wanted tag : ℕ) → NotByEdition edition → sound_of p ≡ true → number_of (close_answer p edition wanted tag) ≢ n
   unfolding close_answer need_of
   close_beyond edition wanted tag not sound =
       rw sound
-      (not _ (link_not n (counts_within p) OverLimit _ (λ e. omega arith) (link_not n (eqb tag wanted) TagLength Done (λ e. omega arith) (λ e. omega arith))))
+      (not _ (link_not n (counts_within p) OverLimit _ (λ e. omega arith) (link_not n (eqb tag wanted) TagLength (Ok tt) (λ e. omega arith) (λ e. omega arith))))
 
 -- so behind soundness neither is answered 9 or 10
 module _ (n : ℕ) (least : 9 ≤ n) (most : n ≤ 10) (p : Place) where
@@ -216,16 +216,16 @@ module _ (n : ℕ) (least : 9 ≤ n) (most : n ≤ 10) (p : Place) where
 
 -- a place that is not sound is answered 9
 module _ (p : Place) (e : sound_of p ≡ false) where
-  pub unsound_piece : (label : Label) (n : ℕ) (exact : Bool) → piece_answer p label n exact ≡ NotSound
+  pub unsound_piece : (label : Label) (n : ℕ) (exact : Bool) → piece_answer p label n exact ≡ Err NotSound
   unfolding piece_answer need_of
   unsound_piece label n exact = rw e
 
-  pub unsound_close : (edition : Edition) (wanted tag : ℕ) → close_answer p edition wanted tag ≡ NotSound
+  pub unsound_close : (edition : Edition) (wanted tag : ℕ) → close_answer p edition wanted tag ≡ Err NotSound
   unfolding close_answer need_of
   unsound_close edition wanted tag = rw e
 
 -- so by its numbers alone neither is ever answered 10
-never_10 : (p : Place) (a : Answer) → (sound_of p ≡ true → number_of a ≢ 10) → (sound_of p ≡ false → a ≡ NotSound) → number_of a ≢ 10
+never_10 : (p : Place) (a : Answer) → (sound_of p ≡ true → number_of a ≢ 10) → (sound_of p ≡ false → a ≡ Err NotSound) → number_of a ≢ 10
 never_10 p a sound unsound =
     ⊎_elim sound (λ (e : sound_of p ≡ false). λ z. let nine : number_of a ≡ 9 = ap number_of (unsound e) in omega arith) (either (sound_of p))
 
@@ -240,7 +240,7 @@ close_never_10 p edition wanted tag =
 -- 12 is answered where a place is sound and the job another, and nowhere else
 module _ (p : Place) (edition : Edition) where
   -- an answer from which all of this is read
-  at_12 : (a : Answer) → (sound_of p ≡ false → a ≡ NotSound) → (sound_of p ≡ true → edition.job ≢ p.terms.edition.job → a ≡ OtherJob)
+  at_12 : (a : Answer) → (sound_of p ≡ false → a ≡ Err NotSound) → (sound_of p ≡ true → edition.job ≢ p.terms.edition.job → a ≡ Err OtherJob)
       → (sound_of p ≡ true → edition.job ≡ p.terms.edition.job → number_of a ≢ 12) → (number_of a ≡ 12) ↔ ((sound_of p ≡ true) × (edition.job ≢ p.terms.edition.job))
   at_12 a unsound other same = (from, λ h. ap number_of (other h.0 h.1))
     where

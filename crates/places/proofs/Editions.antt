@@ -1,40 +1,28 @@
 -- The test of the edition, as a link of a chain of refusals; and the front of an edition: how long it is, and that it is bytes.
 -- Assumes nothing.
-use mathlib.Core.Path.{◌≡◌, refl, sym, ap, ◌∙◌}
-use mathlib.Core.Bool.{Bool, true, false, false≢true}
-use mathlib.Core.Logic.{⊎_elim, ◌≢◌}
+use mathlib.Core.Path.{◌≡◌, refl}
+use mathlib.Core.Bool.{true, false}
+use mathlib.Core.Logic.{◌≢◌}
 use Prim.Native.Nat.{ℕ, ◌≤◌}
 use native.Mathlib.Omega.{arith}
 use borrow.Author.Tests.{eq-eqb, ne_eqb, eqb-true}
 use lib.Dec.{eqb}
 use lib.ListN.{length}
+use Rattle.std.specs.Prelude.{Ok, Err}
 use Rattle.norx.specs.Norx.{bytes_of}
 use Rattle.norx.specs.Front.{eight_bytes, front, front_bytes}
 use Rattle.norx.proofs.Bytes.{Bytes, bytes_append, bytes_bytes_of}
-use Rattle.answers.specs.declared.Answer.{Answer}
-use Rattle.answers.specs.declared.Answer.TheVariants.{Done, OtherRevision, OtherJob}
-use Rattle.answers.specs.Answers.{number_of, done_of, need_of}
-use Rattle.answers.proofs.Tests.{either, cond_true, cond_false}
-use Rattle.answers.proofs.Chain.{link, passed, link_not}
+use Rattle.answers.specs.declared.Refusal.TheVariants.{OtherRevision, OtherJob}
+use Rattle.answers.specs.Answers.{Answer, number_of, done_of, need_of}
+use Rattle.answers.proofs.Chain.{passed, link_not, both_done, and_not}
 use Rattle.places.specs.declared.terms.Edition.{Edition}
 use Rattle.places.specs.Terms.{of_edition, edition_link, front_of}
-
--- the link put together, from what was answered of the edition, whether that is 0, and the rest of the chain
-pub edition_link_lem : (given own : Edition) {a rest rest' r : Answer} {ok : Bool} → r ≡ need_of ok a rest → a ≡ of_edition given own → ok ≡ done_of a → rest ≡ rest'
-    → r ≡ edition_link given own rest'
-unfolding edition_link
-edition_link_lem given own e answer is-own f = link (of_edition given own) e answer (is-own ∙ ap done_of answer) f
 
 module _ (given own : Edition) (rest : Answer) where
   -- where the link gives no refusal, neither its own answer nor the rest of the chain is one
   each_passed : done_of (edition_link given own rest) ≡ true → (done_of (of_edition given own) ≡ true) × (done_of rest ≡ true)
-  unfolding edition_link need_of
-  each_passed h =
-      ⊎_elim
-      (λ (e : done_of (of_edition given own) ≡ true). (e, sym (ap done_of (cond_true _ rest (of_edition given own) e)) ∙ h))
-      (λ (e : done_of (of_edition given own) ≡ false).
-      absurd (false≢true (sym e ∙ (sym (ap done_of (cond_false _ rest (of_edition given own) e)) ∙ h))))
-      (either (done_of (of_edition given own)))
+  unfolding edition_link
+  each_passed h = both_done (of_edition given own) rest h
 
   pub edition_passed : done_of (edition_link given own rest) ≡ true → done_of rest ≡ true
   edition_passed h = (each_passed h).1
@@ -43,21 +31,21 @@ module _ (given own : Edition) (rest : Answer) where
   pub edition_same : done_of (edition_link given own rest) ≡ true → given ≡ own
   unfolding of_edition
   edition_same h =
-      let job = passed _ _ _ refl (each_passed h).0 in
+      let job = passed _ _ _ (each_passed h).0 in
       let jobs : given.job ≡ own.job = eqb-true given.job own.job job.0 in
-      let revisions : given.revision ≡ own.revision = eqb-true given.revision own.revision (passed _ _ _ refl job.1).0 in
+      let revisions : given.revision ≡ own.revision = eqb-true given.revision own.revision (passed _ _ _ job.1).0 in
       λ i. record { job = jobs i; revision = revisions i }
 
   -- an edition is never answered 9 or 10
   pub edition_not : (n : ℕ) → 9 ≤ n → n ≤ 10 → number_of rest ≢ n → number_of (edition_link given own rest) ≢ n
   unfolding edition_link of_edition
   edition_not n least most h =
-      link_not n (done_of (of_edition given own)) (of_edition given own) rest
+      and_not n (of_edition given own) rest
       (link_not n (eqb given.job own.job) OtherJob _ (λ e. omega arith)
-      (link_not n (eqb given.revision own.revision) OtherRevision Done (λ e. omega arith) (λ e. omega arith))) h
+      (link_not n (eqb given.revision own.revision) OtherRevision (Ok tt) (λ e. omega arith) (λ e. omega arith))) h
 
   -- another job is answered 12, whatever its revision is and whatever follows
-  pub other_job : given.job ≢ own.job → edition_link given own rest ≡ OtherJob
+  pub other_job : given.job ≢ own.job → edition_link given own rest ≡ Err OtherJob
   unfolding edition_link of_edition need_of
   other_job h = let apart : eqb given.job own.job ≡ false = ne_eqb given.job own.job h in rw apart
 
@@ -67,8 +55,8 @@ module _ (given own : Edition) (rest : Answer) where
   same_job h g =
       let same : eqb given.job own.job ≡ true = eq-eqb given.job own.job h in
       rw same
-      (link_not 12 (done_of (need_of (eqb given.revision own.revision) OtherRevision Done)) (need_of (eqb given.revision own.revision) OtherRevision Done) rest
-      (link_not 12 (eqb given.revision own.revision) OtherRevision Done (λ e. omega arith) (λ e. omega arith)) g)
+      (and_not 12 (need_of (eqb given.revision own.revision) OtherRevision (Ok tt)) rest
+      (link_not 12 (eqb given.revision own.revision) OtherRevision (Ok tt) (λ e. omega arith) (λ e. omega arith)) g)
 
 -- a session's own edition is not refused
 pub edition_own : (E : Edition) (rest : Answer) → edition_link E E rest ≡ rest

@@ -1,11 +1,10 @@
 -- Where a session of any kind and width stands, and what is answered by its numbers.
 -- Assumes nothing.
-use Rattle.std.specs.Prelude.{ℕ, ◌+◌, ◌≤◌, ◌≡◌, Bool, true, false, ◌&&◌, leb, ltb, eqb}
+use Rattle.std.specs.Prelude.{ℕ, ◌+◌, ◌≤◌, ◌≡◌, Bool, true, false, ◌&&◌, leb, ltb, eqb, Ok}
 use Rattle.norx.specs.Norx.{header_mark, body_mark, trailer_mark}
 use Rattle.norx.specs.Front.{front_bytes}
-use Rattle.answers.specs.declared.Answer.{Answer}
-use Rattle.answers.specs.declared.Answer.TheVariants.{Done, KeyLength, RoundsNumber, TagLength, OverLimit, OutputLength, EarlierPart, OtherOffset, NotSound}
-use Rattle.answers.specs.Answers.{need_of}
+use Rattle.answers.specs.declared.Refusal.TheVariants.{KeyLength, RoundsNumber, TagLength, OverLimit, OutputLength, EarlierPart, OtherOffset, NotSound}
+use Rattle.answers.specs.Answers.{Answer, need_of}
 use Rattle.rules.specs.Rules.{longest_note, longest_body, longest_trailer, rounds_ok, lengths_ok}
 use Rattle.places.specs.declared.terms.Edition.{Edition}
 use Rattle.places.specs.declared.terms.Terms.{Terms}
@@ -95,7 +94,7 @@ sound_of p = sound_at p.standing p
 
 -- start: 2, 1; `row` is the length of a key and of a nonce
 unfoldable pub start_answer : ℕ → Terms → ℕ → ℕ → Answer
-start_answer row T key nonce = need_of (rounds_ok T.rounds) RoundsNumber (need_of (lengths_ok row key nonce) KeyLength Done)
+start_answer row T key nonce = need_of (rounds_ok T.rounds) RoundsNumber (need_of (lengths_ok row key nonce) KeyLength (Ok tt))
 
 -- piece: 9, 12, 6, 7, 8, 4, 5; `exact` says that the output has the exact length
 unfoldable pub piece_answer : Place → Label → ℕ → Bool → Answer
@@ -105,7 +104,7 @@ piece_answer p label n exact =
     (need_of (leb (present_of p.standing) (rank_of label.part)) EarlierPart
     (need_of (eqb label.offset (count_of p label.part)) OtherOffset
     (need_of (leb (count_of p label.part + n) (limit_of label.part)) OverLimit
-    (need_of exact OutputLength Done)))))
+    (need_of exact OutputLength (Ok tt))))))
 
 -- whether the output of a sealing session has the exact length for a piece of n bytes
 abbrev pub seal_exact : Part → ℕ → ℕ → Bool
@@ -119,7 +118,7 @@ close_answer p edition wanted tag =
     need_of (sound_of p) NotSound
     (edition_link edition p.terms.edition
     (need_of (counts_within p) OverLimit
-    (need_of (eqb tag wanted) TagLength Done)))
+    (need_of (eqb tag wanted) TagLength (Ok tt))))
 
 -- what is known of a piece that is accepted
 pub record Accepted (p : Place) (part : Part) (n : ℕ) (exact : Bool) : Type 0 where

@@ -1,10 +1,10 @@
 -- What a session is begun for, and which edition a session, a piece or a close is of.
 -- Assumes nothing.
-use Rattle.std.specs.Prelude.{ℕ, Bool, List, eqb}
+use Rattle.std.specs.Prelude.{ℕ, Bool, List, eqb, Ok}
+use Rattle.std.specs.Result.{result_and}
 use Rattle.norx.specs.Front.{front}
-use Rattle.answers.specs.declared.Answer.{Answer}
-use Rattle.answers.specs.declared.Answer.TheVariants.{Done, OtherRevision, OtherJob}
-use Rattle.answers.specs.Answers.{done_of, need_of}
+use Rattle.answers.specs.declared.Refusal.TheVariants.{OtherRevision, OtherJob}
+use Rattle.answers.specs.Answers.{Answer, need_of}
 use Rattle.rules.specs.Rules.{rounds_ok}
 use Rattle.places.specs.declared.terms.Edition.{Edition}
 use Rattle.places.specs.declared.terms.Terms.{Terms}
@@ -19,11 +19,11 @@ terms_ok T = rounds_ok T.rounds
 
 -- what an edition that is given is answered: 12, 6, and 0 where it is the session's own
 unfoldable pub of_edition : Edition → Edition → Answer
-of_edition given own = need_of (eqb given.job own.job) OtherJob (need_of (eqb given.revision own.revision) OtherRevision Done)
+of_edition given own = need_of (eqb given.job own.job) OtherJob (need_of (eqb given.revision own.revision) OtherRevision (Ok tt))
 
 -- the same as a link of the chains of refusals
 unfoldable pub edition_link : Edition → Edition → Answer → Answer
-edition_link given own rest = need_of (done_of (of_edition given own)) (of_edition given own) rest
+edition_link given own rest = result_and (of_edition given own) rest
 
 -- what stands in front of the note in the header of a session
 unfoldable pub front_of : Edition → List ℕ

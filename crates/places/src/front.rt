@@ -10,24 +10,8 @@ use words::w64::store;
 pub fn front(edition: Edition) -> [u8; FRONT]
     ensures { result ≡ front_of edition }
 {
-    let job = store(edition.job);
-    let revision = store(edition.revision);
-    [
-        job[0],
-        job[1],
-        job[2],
-        job[3],
-        job[4],
-        job[5],
-        job[6],
-        job[7],
-        revision[0],
-        revision[1],
-        revision[2],
-        revision[3],
-        revision[4],
-        revision[5],
-        revision[6],
-        revision[7],
-    ]
+    let mut front = [0; FRONT];
+    front[..8].copy_from_slice(&store(edition.job));
+    front[8..].copy_from_slice(&store(edition.revision));
+    front
 }

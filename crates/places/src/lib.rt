@@ -5,7 +5,7 @@ ghost use Rattle.std.specs.Prelude.{◌≡◌, ◌+◌, ◌≤◌, leb, cond};
 ghost use Rattle.places.specs.Places.{rank_of, limit_of, present_of, ends_of, count_of, fresh_place, closed_place, moved as moved_of, counts_within, unreached_of, sound_of, start_answer, piece_answer, close_answer, seal_exact};
 
 use crate::terms::{Edition, Terms, of_edition, terms_ok};
-use answers::{Answer, done, need};
+use answers::{Refusal, need};
 use rules::{LONGEST_BODY, LONGEST_NOTE, LONGEST_TRAILER, lengths_ok, rounds_ok};
 
 pub mod front;
@@ -82,11 +82,7 @@ pub const BEHIND_ALL: u32 = 3;
 pub fn rank(part: Part) -> u32
     ensures { result ≡ rank_of part }
 {
-    match part {
-        Part::Note => 0,
-        Part::Body => 1,
-        Part::Trailer => 2,
-    }
+    part as u32
 }
 
 // The rank of the part that a session is open in; of a closed one, behind them all.
@@ -148,11 +144,11 @@ fn unreached(p: Place, part: Part) -> bool
 }
 
 // Whether a session is open with numbers that calls could have led to.
+#[tactic(auto, unfolding(crate::specs::Places::sound_of))]
 fn sound(p: Place) -> bool
     ensures { result ≡ sound_of p }
 {
-    let standing = p.standing;
-    match standing {
+    match p.standing {
         Standing::Closed => false,
         Standing::Open(part) => terms_ok(p.terms) & counts_within(p) & unreached(p, part),
     }
@@ -162,10 +158,7 @@ fn sound(p: Place) -> bool
 fn fits(had: usize, n: usize, most: usize) -> bool
     ensures { result ≡ leb (had + n) most }
 {
-    if most < n {
-        return false;
-    }
-    had <= most - n
+    had.checked_add(n).is_some_and(|sum| sum <= most)
 }
 
 // Whether the output of a sealing session has the exact length for a piece of n bytes.
@@ -180,67 +173,38 @@ pub fn exact(part: Part, n: usize, out: usize) -> bool
 }
 
 // The answer to a start: 2, 1, else 0. row is the length of a key and of a nonce.
-pub fn start_answer(row: usize, terms: Terms, key: usize, nonce: usize) -> Answer
+#[tactic(auto, unfolding(crate::specs::Places::start_answer, answers::specs::Answers::need_of))]
+pub fn start_answer(row: usize, terms: Terms, key: usize, nonce: usize) -> Result<(), Refusal>
     ensures { result ≡ start_answer row terms key nonce }
 {
-    need(
-        rounds_ok(terms.rounds),
-        Answer::RoundsNumber,
-        need(lengths_ok(row, key, nonce), Answer::KeyLength, Answer::Done),
-    )
+    need(rounds_ok(terms.rounds), Refusal::RoundsNumber)?;
+    need(lengths_ok(row, key, nonce), Refusal::KeyLength)
 }
 
 // The answer to a piece of n bytes: 9, 12, 6, 7, 8, 4, 5, else 0.
-pub fn piece_answer(p: Place, label: Label, n: usize, exact: bool) -> Answer
+#[tactic(auto, unfolding(crate::specs::Places::piece_answer, crate::specs::Terms::edition_link, answers::specs::Answers::need_of))]
+pub fn piece_answer(p: Place, label: Label, n: usize, exact: bool) -> Result<(), Refusal>
     ensures { result ≡ piece_answer p label n exact }
 {
-    let standing = p.standing;
     let part = label.part;
     let had = count(p, part);
-    let of_label = of_edition(label.edition, p.terms.edition);
-    let own_label = done(of_label);
-    need(
-        sound(p),
-        Answer::NotSound,
-        need(
-            own_label,
-            of_label,
-            need(
-                present(standing) <= rank(part),
-                Answer::EarlierPart,
-                need(
-                    label.offset == had,
-                    Answer::OtherOffset,
-                    need(
-                        fits(had, n, limit(part)),
-                        Answer::OverLimit,
-                        need(exact, Answer::OutputLength, Answer::Done),
-                    ),
-                ),
-            ),
-        ),
-    )
+    need(sound(p), Refusal::NotSound)?;
+    of_edition(label.edition, p.terms.edition)?;
+    need(present(p.standing) <= rank(part), Refusal::EarlierPart)?;
+    need(label.offset == had, Refusal::OtherOffset)?;
+    need(fits(had, n, limit(part)), Refusal::OverLimit)?;
+    need(exact, Refusal::OutputLength)
 }
 
 // The answer to a close before the tag is looked at: 9, 12, 6, 4, 3, else 0. wanted is the length of a tag.
-pub fn close_answer(p: Place, edition: Edition, wanted: usize, tag: usize) -> Answer
+#[tactic(auto, unfolding(crate::specs::Places::close_answer, crate::specs::Terms::edition_link, answers::specs::Answers::need_of))]
+pub fn close_answer(p: Place, edition: Edition, wanted: usize, tag: usize) -> Result<(), Refusal>
     ensures { result ≡ close_answer p edition wanted tag }
 {
-    let of_close = of_edition(edition, p.terms.edition);
-    let own_close = done(of_close);
-    need(
-        sound(p),
-        Answer::NotSound,
-        need(
-            own_close,
-            of_close,
-            need(
-                counts_within(p),
-                Answer::OverLimit,
-                need(tag == wanted, Answer::TagLength, Answer::Done),
-            ),
-        ),
-    )
+    need(sound(p), Refusal::NotSound)?;
+    of_edition(edition, p.terms.edition)?;
+    need(counts_within(p), Refusal::OverLimit)?;
+    need(tag == wanted, Refusal::TagLength)
 }
 
 // The place once a piece of n bytes is accepted; as it was where they would pass the limit.
@@ -260,24 +224,20 @@ fn moved(p: Place, part: Part, n: usize) -> Place
     ensures { result ≡ moved_of p part n }
 {
     let standing = Standing::Open(part);
-    let terms = p.terms;
     match part {
         Part::Note => Place {
             standing,
             note: p.note + n,
-            terms,
             ..p
         },
         Part::Body => Place {
             standing,
             body: p.body + n,
-            terms,
             ..p
         },
         Part::Trailer => Place {
             standing,
             trailer: p.trailer + n,
-            terms,
             ..p
         },
     }

@@ -2,7 +2,7 @@
 ghost use Rattle.std.specs.Prelude.{◌≡◌};
 ghost use Rattle.places.specs.Terms.{terms_ok, of_edition};
 
-use answers::{Answer, need};
+use answers::{Refusal, need};
 use rules::rounds_ok;
 
 // Which job, and which revision of it, a session, a piece or a close is of.
@@ -27,16 +27,10 @@ pub(crate) fn terms_ok(terms: Terms) -> bool
 }
 
 // What an edition that is given is answered: 12, 6, else 0.
-pub(crate) fn of_edition(given: Edition, own: Edition) -> Answer
+#[tactic(auto, unfolding(crate::specs::Terms::of_edition, answers::specs::Answers::need_of))]
+pub(crate) fn of_edition(given: Edition, own: Edition) -> Result<(), Refusal>
     ensures { result ≡ of_edition given own }
 {
-    need(
-        given.job == own.job,
-        Answer::OtherJob,
-        need(
-            given.revision == own.revision,
-            Answer::OtherRevision,
-            Answer::Done,
-        ),
-    )
+    need(given.job == own.job, Refusal::OtherJob)?;
+    need(given.revision == own.revision, Refusal::OtherRevision)
 }

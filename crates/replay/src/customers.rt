@@ -3,7 +3,6 @@ use crate::gateway::Gateway;
 use crate::job::{Job, KEY, NOTE, ROUNDS, TRAILER, label};
 use crate::office::Sealed;
 use crate::told::{Answered, OnOneLine};
-use answers::done;
 use places::Part;
 use places::terms::Edition;
 use std::io;
@@ -74,7 +73,7 @@ pub(crate) fn as_it_was(rt: &impl Print) -> io::Result<bool> {
         OnOneLine(&ran)
     )?;
     rt.println("Now the header is job, revision and note, and the office seals both so:")?;
-    Ok(done(opened.answer))
+    Ok(opened.answer.is_ok())
 }
 
 // A session for job 8 is offered job 7 as what it is.

@@ -1,5 +1,5 @@
 // How what is printed reads: editions, texts, pieces and answers.
-use answers::{Answer, number};
+use answers::{Refusal, number};
 use places::terms::Edition;
 use places::{Label, Part};
 use std::fmt;
@@ -49,30 +49,14 @@ impl fmt::Display for Said {
 
 // The number of an answer and what it means.
 #[derive(Clone, Copy)]
-pub(crate) struct Answered(pub Answer);
+pub(crate) struct Answered(pub Result<(), Refusal>);
 
 impl fmt::Display for Answered {
     fn fmt<W: fmt::Write>(&self, f: &mut fmt::Formatter<W>) -> fmt::Result {
-        write!(f, "{}, {}", number(self.0), meaning(self.0))
-    }
-}
-
-fn meaning(answer: Answer) -> &'static str {
-    match answer {
-        Answer::Done => "done",
-        Answer::KeyLength => "refused: the key or the nonce has another length",
-        Answer::RoundsNumber => "refused: the rounds are not 4 or 6",
-        Answer::TagLength => "refused: the tag has another length",
-        Answer::OverLimit => "refused: the part would be too long",
-        Answer::OutputLength => "refused: the output has another length",
-        Answer::OtherRevision => "refused: not the session's revision",
-        Answer::EarlierPart => "refused: that part has ended",
-        Answer::OtherOffset => "refused: not the next offset",
-        Answer::NotSound => "refused: session closed or not sound",
-        Answer::TagDiffers => "refused: the tag differs",
-        Answer::WidthNumber => "refused: the width is not 32 or 64",
-        Answer::OtherJob => "refused: not the session's job",
-        Answer::SegmentLength => "refused: not the length of that segment",
-        Answer::AfterLast => "refused: a segment after the last",
+        let n = number(self.0);
+        match self.0 {
+            Ok(()) => write!(f, "{n}, done"),
+            Err(refusal) => write!(f, "{n}, refused: {refusal}"),
+        }
     }
 }

@@ -1,7 +1,6 @@
 // A tool that is served early: each call of its receiver, printed on a line with its answer and what the tool is served.
 use crate::job::{KEY, NOTE, terms};
 use crate::told::{Answered, Named};
-use answers::done;
 use places::terms::Edition;
 use rules::w64::TAG;
 use segments::receiver64::Receiver;
@@ -27,7 +26,7 @@ impl Tool {
         )?;
         Ok(Tool {
             receiver: step.receiver,
-            right: done(step.answer),
+            right: step.answer.is_ok(),
         })
     }
 
@@ -45,7 +44,7 @@ impl Tool {
         let step = self.receiver.take(&NOTE, last, sealed, &mut out);
         self.receiver = step.receiver;
         print!(rt; "  {called}, {name} -> {}; ", Answered(step.answer))?;
-        self.right &= if done(step.answer) {
+        self.right &= if step.answer.is_ok() {
             println!(rt; "served {} bytes", out.len())?;
             due == Some(out.as_slice())
         } else {

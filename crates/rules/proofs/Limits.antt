@@ -7,10 +7,10 @@ use Prim.Native.Nat.{ℕ, suc, ◌+◌, ◌-◌, ◌<◌}
 use native.Mathlib.Omega.{arith}
 use borrow.Author.Tests.{le-leb, leb-true, eq-eqb, eqb-true}
 use lib.Dec.{leb, eqb}
+use Rattle.std.specs.Prelude.{Ok}
 use Rattle.norx.specs.Norx.{Width, word32, word64, row_bytes}
-use Rattle.answers.specs.declared.Answer.{Answer}
-use Rattle.answers.specs.declared.Answer.TheVariants.{Done, KeyLength, RoundsNumber, TagLength, OverLimit, OutputLength}
-use Rattle.answers.specs.Answers.{number_of, done_of}
+use Rattle.answers.specs.declared.Refusal.TheVariants.{KeyLength, RoundsNumber, TagLength, OverLimit, OutputLength}
+use Rattle.answers.specs.Answers.{Answer, number_of, done_of}
 use Rattle.answers.proofs.Chain.{done_zero, zero_done, passed, passes, link_not, both, and_true, one_of}
 use Rattle.rules.specs.Rules.{longest_header, longest_body, longest_trailer, within, rounds_ok, rounds_of, lengths_ok, tag_bytes}
 use Rattle.rules.specs.Calls.{seal_checks, open_checks}
@@ -49,11 +49,11 @@ rounds_asked word32 l e = go (rounds_from l e)
 module _ (row tag l key nonce header text trailer out : ℕ) where
   pub seal_rounds : done_of (seal_checks row tag l key nonce header text trailer out) ≡ true → rounds_ok l ≡ true
   unfolding seal_checks
-  seal_rounds e = (passed (rounds_ok l) RoundsNumber _ refl e).0
+  seal_rounds e = (passed (rounds_ok l) RoundsNumber _ e).0
 
   pub open_rounds : done_of (open_checks row tag l key nonce header text trailer out) ≡ true → rounds_ok l ≡ true
   unfolding open_checks
-  open_rounds e = (passed (rounds_ok l) RoundsNumber _ refl e).0
+  open_rounds e = (passed (rounds_ok l) RoundsNumber _ e).0
 
 module _ (w : Width) (key nonce : ℕ) where
   lengths_from : lengths_ok (row_bytes w) key nonce ≡ true → (key ≡ widths_length w) × (nonce ≡ widths_length w)
@@ -95,10 +95,10 @@ module _ (w : Width) (l key nonce header text trailer out : ℕ) where
   seal_from : done_of sealing ≡ true → SealLimits w l key nonce header text trailer out
   unfolding seal_checks
   seal_from e =
-      let a = passed (rounds_ok l) RoundsNumber _ refl e in
-      let b = passed (lengths_ok (row_bytes w) key nonce) KeyLength _ refl a.1 in
-      let c = passed (within header text trailer) OverLimit _ refl b.1 in
-      let d = passed (eqb out (text + tag_bytes w)) OutputLength Done refl c.1 in
+      let a = passed (rounds_ok l) RoundsNumber _ e in
+      let b = passed (lengths_ok (row_bytes w) key nonce) KeyLength _ a.1 in
+      let c = passed (within header text trailer) OverLimit _ b.1 in
+      let d = passed (eqb out (text + tag_bytes w)) OutputLength (Ok tt) c.1 in
       record {
         begins = start_from w l key nonce a.0 b.0;
         parts = parts_from header text trailer c.0;
@@ -123,11 +123,11 @@ module _ (w : Width) (l key nonce header text trailer out : ℕ) where
   open-from : done_of opening ≡ true → OpenLimits w l key nonce header text trailer out
   unfolding open_checks
   open-from e =
-      let a = passed (rounds_ok l) RoundsNumber _ refl e in
-      let b = passed (lengths_ok (row_bytes w) key nonce) KeyLength _ refl a.1 in
-      let c = passed (leb (tag_bytes w) text) TagLength _ refl b.1 in
-      let d = passed (within header (text - tag_bytes w) trailer) OverLimit _ refl c.1 in
-      let f = passed (eqb out (text - tag_bytes w)) OutputLength Done refl d.1 in
+      let a = passed (rounds_ok l) RoundsNumber _ e in
+      let b = passed (lengths_ok (row_bytes w) key nonce) KeyLength _ a.1 in
+      let c = passed (leb (tag_bytes w) text) TagLength _ b.1 in
+      let d = passed (within header (text - tag_bytes w) trailer) OverLimit _ c.1 in
+      let f = passed (eqb out (text - tag_bytes w)) OutputLength (Ok tt) d.1 in
       record {
         begins = start_from w l key nonce a.0 b.0;
         tagged = rw (sym (tag_long w)) (leb-true (tag_bytes w) text c.0);
@@ -157,7 +157,7 @@ module _ (n : ℕ) (more : 5 < n) (row tag l key nonce header text trailer out :
       link_not n (rounds_ok l) RoundsNumber _ (λ e. omega arith)
       (link_not n (lengths_ok row key nonce) KeyLength _ (λ e. omega arith)
       (link_not n (within header text trailer) OverLimit _ (λ e. omega arith)
-      (link_not n (eqb out (text + tag)) OutputLength Done (λ e. omega arith) (λ e. omega arith))))
+      (link_not n (eqb out (text + tag)) OutputLength (Ok tt) (λ e. omega arith) (λ e. omega arith))))
 
   pub open_answers : number_of (open_checks row tag l key nonce header text trailer out) ≢ n
   unfolding open_checks
@@ -166,4 +166,4 @@ module _ (n : ℕ) (more : 5 < n) (row tag l key nonce header text trailer out :
       (link_not n (lengths_ok row key nonce) KeyLength _ (λ e. omega arith)
       (link_not n (leb tag text) TagLength _ (λ e. omega arith)
       (link_not n (within header (text - tag) trailer) OverLimit _ (λ e. omega arith)
-      (link_not n (eqb out (text - tag)) OutputLength Done (λ e. omega arith) (λ e. omega arith)))))
+      (link_not n (eqb out (text - tag)) OutputLength (Ok tt) (λ e. omega arith) (λ e. omega arith)))))

@@ -12,8 +12,7 @@ use lib.ListN.{length}
 use Rattle.norx.specs.Norx.{Width, word32, word64}
 use Rattle.norx.specs.Runs.{part_runs, runs_by, sealing_runs}
 use Rattle.norx.proofs.Bytes.{zeros, length-zeros}
-use Rattle.answers.specs.declared.Answer.{Answer}
-use Rattle.answers.specs.Answers.{number_of, runs_with}
+use Rattle.answers.specs.Answers.{Answer, number_of, runs_with}
 use Rattle.answers.proofs.Tests.{either, cond_true, cond_false}
 use Rattle.answers.proofs.Runs.{reported_with, unreported_with, same_report, report_most}
 use Rattle.rules.specs.Rules.{within}

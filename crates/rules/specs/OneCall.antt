@@ -2,8 +2,7 @@
 -- Assumes nothing.
 use Rattle.std.specs.Prelude.{cond, List, ℕ, length}
 use Rattle.norx.specs.Norx.{Width, row_bytes, tag_bits, sealed, opened}
-use Rattle.answers.specs.declared.Answer.{Answer}
-use Rattle.answers.specs.Answers.{done_of}
+use Rattle.answers.specs.Answers.{Answer, done_of}
 use Rattle.rules.specs.Rules.{tag_bytes}
 use Rattle.rules.specs.Calls.{seal_checks, open_checks, answer_of, out_of}
 

@@ -4,7 +4,7 @@ ghost use Rattle.rules.specs.Rules.{within as within_of};
 ghost use Rattle.rules.specs.Calls.{seal_checks, open_checks};
 
 use super::{LONGEST_BODY, LONGEST_HEADER, LONGEST_TRAILER, lengths_ok, rounds_ok};
-use answers::{Answer, need};
+use answers::{Refusal, need};
 
 // Whether no part passes its limit.
 pub(crate) fn within(header: usize, body: usize, trailer: usize) -> bool
@@ -13,24 +13,8 @@ pub(crate) fn within(header: usize, body: usize, trailer: usize) -> bool
     (header <= LONGEST_HEADER) & (body <= LONGEST_BODY) & (trailer <= LONGEST_TRAILER)
 }
 
-// Whether a whole is its two parts together, with no sum that could wrap.
-fn is_sum(whole: usize, first: usize, second: usize) -> bool
-    ensures { result ≡ eqb whole (first + second) }
-{
-    if whole < second {
-        return false;
-    }
-    whole - second == first
-}
-
-// a - b, and 0 where b is more.
-fn minus_or_zero(a: usize, b: usize) -> usize
-    ensures { result ≡ a - b }
-{
-    if a < b { 0 } else { a - b }
-}
-
 // What the numbers of a sealing are answered: 2, 1, 4, 5, else 0. row is the length of a key and of a nonce, tag that of a tag.
+#[tactic(auto, unfolding(crate::specs::Calls::seal_checks, answers::specs::Answers::need_of))]
 pub fn seal_checks(
     row: usize,
     tag: usize,
@@ -41,25 +25,17 @@ pub fn seal_checks(
     body: usize,
     trailer: usize,
     out: usize,
-) -> Answer
+) -> Result<(), Refusal>
     ensures { result ≡ seal_checks row tag rounds key nonce header body trailer out }
 {
-    need(
-        rounds_ok(rounds),
-        Answer::RoundsNumber,
-        need(
-            lengths_ok(row, key, nonce),
-            Answer::KeyLength,
-            need(
-                within(header, body, trailer),
-                Answer::OverLimit,
-                need(is_sum(out, body, tag), Answer::OutputLength, Answer::Done),
-            ),
-        ),
-    )
+    need(rounds_ok(rounds), Refusal::RoundsNumber)?;
+    need(lengths_ok(row, key, nonce), Refusal::KeyLength)?;
+    need(within(header, body, trailer), Refusal::OverLimit)?;
+    need(body.checked_add(tag) == Some(out), Refusal::OutputLength)
 }
 
 // What the numbers of an opening are answered before its tag is looked at: 2, 1, 3, 4, 5, else 0.
+#[tactic(auto, unfolding(crate::specs::Calls::open_checks, answers::specs::Answers::need_of))]
 pub fn open_checks(
     row: usize,
     tag: usize,
@@ -70,25 +46,13 @@ pub fn open_checks(
     text: usize,
     trailer: usize,
     out: usize,
-) -> Answer
+) -> Result<(), Refusal>
     ensures { result ≡ open_checks row tag rounds key nonce header text trailer out }
 {
-    let body = minus_or_zero(text, tag);
-    need(
-        rounds_ok(rounds),
-        Answer::RoundsNumber,
-        need(
-            lengths_ok(row, key, nonce),
-            Answer::KeyLength,
-            need(
-                tag <= text,
-                Answer::TagLength,
-                need(
-                    within(header, body, trailer),
-                    Answer::OverLimit,
-                    need(out == body, Answer::OutputLength, Answer::Done),
-                ),
-            ),
-        ),
-    )
+    let body = text.saturating_sub(tag);
+    need(rounds_ok(rounds), Refusal::RoundsNumber)?;
+    need(lengths_ok(row, key, nonce), Refusal::KeyLength)?;
+    need(tag <= text, Refusal::TagLength)?;
+    need(within(header, body, trailer), Refusal::OverLimit)?;
+    need(out == body, Refusal::OutputLength)
 }

@@ -1,23 +1,21 @@
 -- Demands 1 and 2 of a call, and what it reports of the runs of P, from what its contract says of the answer and of the output.
 -- Assumes nothing.
 use mathlib.Core.Path.{◌≡◌, refl, sym, ap, ◌∙◌}
-use mathlib.Core.Bool.{true, false}
+use mathlib.Core.Bool.{true, false, false≢true}
 use mathlib.Core.Logic.{◌⊎◌, inl, inr, ⊎_elim, ◌↔◌, ◌≢◌}
 use mathlib.Core.List.{List}
 use mathlib.Core.Option.{Option, none, some}
 use Prim.Native.Nat.{ℕ, ◌-◌, ◌<◌}
 use native.Mathlib.Omega.{arith}
-use borrow.Author.Tests.{ne_eqb}
 use lib.ListN.{length, replicate}
 use Rattle.norx.specs.Norx.{Width, row_bytes, tag_bits, recovered, opened}
 use Rattle.norx.specs.Runs.{counted_runs, sealing_runs}
 use Rattle.norx.specs.Texts.{Bytes}
 use Rattle.norx.proofs.Runs.{counts_sealing, length-recovered}
-use Rattle.answers.specs.declared.Answer.{Answer}
 use Rattle.answers.specs.declared.Outcome.{Outcome}
-use Rattle.answers.specs.Answers.{number_of, done_of, runs_with, reported_of}
+use Rattle.answers.specs.Answers.{Answer, number_of, done_of, runs_with, reported_of}
 use Rattle.answers.proofs.Tests.{either, cond_false}
-use Rattle.answers.proofs.Chain.{done_zero, zero_done}
+use Rattle.answers.proofs.Chain.{done_zero, zero_done, not_done}
 use Rattle.answers.proofs.Runs.{same_report}
 use Rattle.rules.specs.Rules.{tag_bytes}
 use Rattle.rules.specs.Calls.{answer_of, out_of}
@@ -46,7 +44,7 @@ module _ (w : Width) (l : ℕ) (key nonce header text trailer before : List ℕ)
 
   kept_sealing : number_of sealing ≢ 0 → seal_out w l key nonce header text trailer before ≡ before
   unfolding seal_out
-  kept_sealing h = cond_false _ _ before (ne_eqb (number_of sealing) 0 h)
+  kept_sealing h = cond_false _ _ before (not_done sealing h)
 
   pub seal_within : (number_of (seal_answer w l key nonce header text trailer before) ≡ 0) ⊎ (number_of (seal_answer w l key nonce header text trailer before) ≡ 10)
       → PartLimits (length header) (length text) (length trailer)
@@ -102,7 +100,7 @@ module _ (w : Width) (l : ℕ) (key nonce header text trailer before : List ℕ)
   may_where e = may_open.0 (done_zero checks e)
 
   never_there : done_of checks ≡ false → (number_of opening ≡ 0) ⊎ (number_of opening ≡ 10) → ⊥
-  never_there e (inl z) = let done : done_of checks ≡ true = zero_done checks (sym (ap number_of (numbers_refused e).0) ∙ z) in let no : ◌≡◌ {A = ℕ} 0 1 = cc in omega arith
+  never_there e (inl z) = let done : done_of checks ≡ true = zero_done checks (sym (ap number_of (numbers_refused e).0) ∙ z) in absurd (false≢true (sym e ∙ done))
   never_there e (inr z) = checks_not 10 (omega arith) (sym (ap number_of (numbers_refused e).0) ∙ z)
 
   by_tag : (x : Option (List ℕ)) → (number_of (answer_of x) ≡ 0) ⊎ (number_of (answer_of x) ≡ 10)

@@ -7,9 +7,10 @@ use mathlib.Core.Option.{Option}
 use Prim.Native.Nat.{ℕ, ◌+◌}
 use lib.Dec.{eqb}
 use lib.ListN.{length, replicate}
+use Rattle.answers.specs.Answers.{Answer}
+use Rattle.std.specs.Prelude.{Err}
 use Rattle.norx.specs.Norx.{Width, row_bytes, tag_bits, State, row_of, header_mark, start, after_part, before_body, tag, sealed, recovered, opened}
-use Rattle.answers.specs.declared.Answer.{Answer}
-use Rattle.answers.specs.declared.Answer.TheVariants.{OutputLength}
+use Rattle.answers.specs.declared.Refusal.TheVariants.{OutputLength}
 use Rattle.answers.proofs.Tests.{cond_equal}
 use Rattle.rules.specs.Rules.{tag_bytes}
 use Rattle.rules.specs.Calls.{answer_of, out_of}
@@ -44,7 +45,7 @@ module _ (w : Width) (l : ℕ) (key nonce header text trailer : List ℕ) where
     opened-is = ap₂ (λ (x : List ℕ) (z : State). opened_from w l (tag_bits w) x z text trailer) key_is state_is ∙ opened_whole
 
     pub opened_of_whole : (o : List ℕ) {r : Answer} {y : List ℕ} → length text ≡ length o + tag_bytes w
-        → r ≡ cond (eqb (length text) (length o + tag_bytes w)) (answer_of (opened_from w l (tag_bits w) k s text trailer)) OutputLength
+        → r ≡ cond (eqb (length text) (length o + tag_bytes w)) (answer_of (opened_from w l (tag_bits w) k s text trailer)) (Err OutputLength)
         → y ≡ cond (eqb (length text) (length o + tag_bytes w)) (out_of (opened_from w l (tag_bits w) k s text trailer) (length o)) o
         → (r ≡ answer_of (opened w l (tag_bits w) key nonce header text trailer)) × (y ≡ out_of (opened w l (tag_bits w) key nonce header text trailer) (length o))
     opened_of_whole o long e f = (

@@ -10,13 +10,14 @@ use borrow.Author.Tests.{eq-eqb}
 use lib.Dec.{eqb}
 use lib.ListN.{length, take, drop, replicate, length-append, length-drop}
 use lib.Seq.{length-take-le, drop_at, drop-length}
+use Rattle.std.specs.Prelude.{Ok, Err}
+use Rattle.answers.specs.Answers.{Answer}
 use Rattle.norx.specs.Norx.{Width, tag_bits, State, row_at, bytes_of_row, body_mark, trailer_mark, after_part, ciphertext, message, finished, tag_of, same}
 use Rattle.norx.specs.Turns.{put}
 use Rattle.norx.proofs.Slices.{put_next, copied, tail}
 use Rattle.norx.proofs.Blocks.{length-ciphertext}
 use Rattle.norx.proofs.Words.{length-bytes_of_row}
-use Rattle.answers.specs.declared.Answer.{Answer}
-use Rattle.answers.specs.declared.Answer.TheVariants.{Done, OutputLength, TagDiffers}
+use Rattle.answers.specs.declared.Refusal.TheVariants.{OutputLength, TagDiffers}
 use Rattle.answers.proofs.Tests.{cond_true, cond_equal}
 use Rattle.rules.specs.Rules.{tag_bytes}
 use Rattle.rules.specs.Calls.{answer_of, out_of}
@@ -40,7 +41,7 @@ laid o c g {y} {z} {e} h hy he hz =
     ∙ ap (λ (t : List ℕ). (c ++ g) ++ t) (ap (λ (n : ℕ). drop n q) le ∙ drop-length q) ∙ append-nil (c ++ g)
 
 -- a message or none, by a test
-answer_by : (b : Bool) (y : List ℕ) → answer_of (cond b (some y) none) ≡ cond b Done TagDiffers
+answer_by : (b : Bool) (y : List ℕ) → answer_of (cond b (some y) none) ≡ cond b (Ok tt) (Err TagDiffers)
 answer_by true y = refl
 answer_by false y = refl
 
@@ -104,9 +105,9 @@ module _ (w : Width) (l : ℕ) (k : List ℕ) (s : State) (text trailer : List �
       → u ≡ cond (eqb (length o) (length c)) (after_part w l body_mark s (message w l s c)) s
       → y ≡ cond (eqb (length o) (length c)) (message w l s c) o → length y ≡ length o
       → v ≡ after_part w l trailer_mark u trailer → e ≡ tag_of w l (tag_bits w) k v
-      → r ≡ cond (same (take (length text - length o) (drop (length o) text)) e) Done TagDiffers
+      → r ≡ cond (same (take (length text - length o) (drop (length o) text)) e) (Ok tt) (Err TagDiffers)
       → z ≡ cond (same (take (length text - length o) (drop (length o) text)) e) y (replicate (length y) 0)
-      → (r ≡ cond (eqb (length text) (length o + tag_bytes w)) (answer_of (opened_from w l (tag_bits w) k s text trailer)) OutputLength)
+      → (r ≡ cond (eqb (length text) (length o + tag_bytes w)) (answer_of (opened_from w l (tag_bits w) k s text trailer)) (Err OutputLength))
       × (z ≡ cond (eqb (length text) (length o + tag_bytes w)) (out_of (opened_from w l (tag_bits w) k s text trailer) (length o)) o)
   opened_by o {c} {y} {e} {z} {u} {v} {r} ho hc hu hy ly hv he hr hz =
       let b : Bool = same (take (length text - length o) (drop (length o) text)) e in

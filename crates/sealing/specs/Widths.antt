@@ -1,10 +1,10 @@
 -- The calls at a width that is given as a number, which is checked first: 11 where it is not 32 or 64, with nothing changed and no run of P.
 -- Assumes nothing.
-use Rattle.std.specs.Prelude.{cond, List, ℕ, eqb}
+use Rattle.std.specs.Prelude.{cond, List, ℕ, eqb, Err}
 use Rattle.std.proofs.Math.Option.{Option, none, some}
 use Rattle.norx.specs.Norx.{Width, word32, word64}
-use Rattle.answers.specs.declared.Answer.{Answer}
-use Rattle.answers.specs.declared.Answer.TheVariants.{WidthNumber}
+use Rattle.answers.specs.declared.Refusal.TheVariants.{WidthNumber}
+use Rattle.answers.specs.Answers.{Answer}
 use Rattle.rules.specs.OneCall.{seal_answer, seal_out, open_answer, open_out}
 use Rattle.rules.specs.Runs.{seal_runs, open_runs}
 
@@ -13,7 +13,7 @@ unfoldable pub width_of : ℕ → Option Width
 width_of n = cond (eqb n 32) (some word32) (cond (eqb n 64) (some word64) none)
 
 abbrev pub answer_at : Option Width → (Width → Answer) → Answer
-answer_at none f = WidthNumber
+answer_at none f = Err WidthNumber
 answer_at (some w) f = f w
 
 abbrev pub out_at : Option Width → (Width → List ℕ) → List ℕ → List ℕ

@@ -2,12 +2,11 @@
 // Where the trailer is empty the state goes on to the tag from where it is: what absorb gives back would be a copy.
 ghost use Rattle.std.specs.Prelude.{◌≡◌, cond, ◌+◌, eqb, length, replicate};
 ghost use Rattle.norx.specs.Norx.{word32, tag_bits, same as same_of};
-ghost use Rattle.answers.specs.declared.Answer.TheVariants.{Done, OutputLength, TagDiffers};
 ghost use Rattle.rules.specs.Rules.{rounds_of, tag_bytes};
 ghost use Rattle.rules.specs.Calls.{answer_of, out_of};
 ghost use Rattle.sealing.specs.Bodies.{sealed_from, opened_from};
 
-use answers::Answer;
+use answers::Refusal;
 use blocks32::ends::tag;
 use rules::TRAILER_MARK;
 use rules::w32::*;
@@ -32,15 +31,15 @@ pub fn seal(s: State, rounds: u32, key: Row, body: &[u8], trailer: &[u8], out: &
 }
 
 // What an opening answers by the tag that came and its own; where they differ, the output is cleared.
-fn judged(theirs: &[u8], own: [u8; TAG], out: &mut [u8]) -> Answer
-    ensures answer { result ≡ cond (same_of theirs.now own) Done TagDiffers }
+fn judged(theirs: &[u8], own: [u8; TAG], out: &mut [u8]) -> Result<(), Refusal>
+    ensures answer { result ≡ cond (same_of theirs.now own) (Ok tt) (Err Refusal.TagDiffers) }
     ensures output { out.new ≡ cond (same_of theirs.now own) out.old (replicate (length out.old) 0) }
 {
     if same(theirs, &own) {
-        return Answer::Done;
+        return Ok(());
     }
     clear(out);
-    Answer::TagDiffers
+    Err(Refusal::TagDiffers)
 }
 
 // Opens a sealed text: its message is written where the tag is its own, and else zeros; nothing, and 5, where the text is not as long as the output and a tag.
@@ -51,13 +50,13 @@ pub fn open(
     sealed: &[u8],
     trailer: &[u8],
     out: &mut [u8],
-) -> Answer
-    ensures answer { result ≡ cond (eqb (length sealed.now) (length out.old + tag_bytes word32)) (answer_of (opened_from word32 (rounds_of word32 rounds) (tag_bits word32) key s sealed.now trailer.now)) OutputLength }
+) -> Result<(), Refusal>
+    ensures answer { result ≡ cond (eqb (length sealed.now) (length out.old + tag_bytes word32)) (answer_of (opened_from word32 (rounds_of word32 rounds) (tag_bits word32) key s sealed.now trailer.now)) (Err Refusal.OutputLength) }
     ensures output { out.new ≡ cond (eqb (length sealed.now) (length out.old + tag_bytes word32)) (out_of (opened_from word32 (rounds_of word32 rounds) (tag_bits word32) key s sealed.now trailer.now) (length out.old)) out.old }
 {
     let n = out.len();
     if sealed.len() != n + TAG {
-        return Answer::OutputLength;
+        return Err(Refusal::OutputLength);
     }
     let u = decrypt(s, rounds, &sealed[0..n], &mut *out);
     if trailer.len() == 0 {

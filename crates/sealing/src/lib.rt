@@ -6,7 +6,7 @@ ghost use Rattle.answers.specs.Answers.{number_of};
 ghost use Rattle.sealing.specs.Widths.{seal_answer_at, seal_runs_at, seal_out_at, open_answer_at, open_runs_at, open_out_at};
 ghost use Rattle.sealing.specs.Promises.{SealsAt, OpensAt};
 
-use answers::{Answer, Outcome};
+use answers::{Outcome, Refusal};
 
 pub mod body32;
 pub mod body64;
@@ -36,7 +36,7 @@ pub fn seal(
         return w64::seal(rounds, key, nonce, header, body, trailer, out);
     }
     Outcome {
-        answer: Answer::WidthNumber,
+        answer: Err(Refusal::WidthNumber),
         runs: 0,
     }
 }
@@ -64,7 +64,7 @@ pub fn open(
         return w64::open(rounds, key, nonce, header, sealed, trailer, out);
     }
     Outcome {
-        answer: Answer::WidthNumber,
+        answer: Err(Refusal::WidthNumber),
         runs: 0,
     }
 }

@@ -1,15 +1,14 @@
 // Sealing and opening in one call at 32-bit words.
-ghost use Rattle.std.specs.Prelude.{◌≡◌, length};
-ghost use Rattle.norx.specs.Norx.{word32, row_bytes, tag_bits, header_mark, after_part, start as norx_start, sealed as sealed_of};
+ghost use Rattle.std.specs.Prelude.{◌≡◌};
+ghost use Rattle.norx.specs.Norx.{word32, tag_bits, header_mark, after_part, start as norx_start};
 ghost use Rattle.answers.specs.Answers.{number_of};
-ghost use Rattle.rules.specs.Rules.{rounds_of, tag_bytes};
-ghost use Rattle.rules.specs.Calls.{Exact};
-ghost use Rattle.rules.specs.OneCall.{seal_answer, seal_out, tag_answer, tag_out, open_answer, open_out};
+ghost use Rattle.rules.specs.Rules.{rounds_of};
+ghost use Rattle.rules.specs.OneCall.{seal_answer, seal_out, open_answer, open_out};
 ghost use Rattle.rules.specs.Runs.{seal_runs, open_runs};
 ghost use Rattle.sealing.specs.Promises.{Seals, Opens};
 
 use crate::body32;
-use answers::{Answer, Outcome, done, reported};
+use answers::{Outcome, Refusal, reported};
 use blocks32::ends::{row, start};
 use rules::HEADER_MARK;
 use rules::calls::{open_checks, seal_checks};
@@ -23,8 +22,9 @@ fn before_body(rounds: u32, key: Row, nonce: Row, header: &[u8]) -> State
     absorb(start(rounds, key, nonce), rounds, HEADER_MARK, header)
 }
 
-// Seals where the numbers refuse nothing.
-fn seal_checked(
+// Seals where the numbers refuse nothing, and else changes nothing.
+#[tactic(auto, unfolding(rules::specs::OneCall::seal_answer, rules::specs::OneCall::seal_out))]
+fn try_seal(
     rounds: u32,
     key: &[u8],
     nonce: &[u8],
@@ -32,13 +32,25 @@ fn seal_checked(
     body: &[u8],
     trailer: &[u8],
     out: &mut [u8],
-)
-    requires { Exact (row_bytes word32) (tag_bytes word32) (length key.now) (length nonce.now) (length body.now) (length out.old) }
-    ensures { out.new ≡ sealed_of word32 (rounds_of word32 rounds) (tag_bits word32) key.now nonce.now header.now body.now trailer.now }
+) -> Result<(), Refusal>
+    ensures answer { result ≡ seal_answer word32 rounds key.now nonce.now header.now body.now trailer.now out.old }
+    ensures output { out.new ≡ seal_out word32 rounds key.now nonce.now header.now body.now trailer.now out.old }
 {
+    seal_checks(
+        ROW,
+        TAG,
+        rounds,
+        key.len(),
+        nonce.len(),
+        header.len(),
+        body.len(),
+        trailer.len(),
+        out.len(),
+    )?;
     let k = row(key);
     let s = before_body(rounds, k, row(nonce), header);
     body32::seal(s, rounds, k, body, trailer, out);
+    Ok(())
 }
 
 // Seals a body: ciphertext and tag are written to the output, which is as long as both.
@@ -57,26 +69,13 @@ pub fn seal(
     ensures promise { Seals word32 rounds key.now nonce.now header.now body.now trailer.now out.old (number_of result.answer) result.runs out.new }
 {
     let n = runs(header.len(), body.len(), trailer.len());
-    let answer = seal_checks(
-        ROW,
-        TAG,
-        rounds,
-        key.len(),
-        nonce.len(),
-        header.len(),
-        body.len(),
-        trailer.len(),
-        out.len(),
-    );
-    if !done(answer) {
-        return reported(answer, n);
-    }
-    seal_checked(rounds, key, nonce, header, body, trailer, out);
+    let answer = try_seal(rounds, key, nonce, header, body, trailer, out);
     reported(answer, n)
 }
 
-// Opens where the numbers refuse nothing: the tag decides.
-fn open_checked(
+// Opens where the numbers refuse nothing, by its tag; and else changes nothing.
+#[tactic(auto, unfolding(rules::specs::OneCall::open_answer, rules::specs::OneCall::open_out))]
+fn try_open(
     rounds: u32,
     key: &[u8],
     nonce: &[u8],
@@ -84,11 +83,21 @@ fn open_checked(
     sealed: &[u8],
     trailer: &[u8],
     out: &mut [u8],
-) -> Answer
-    requires { Exact (row_bytes word32) (tag_bytes word32) (length key.now) (length nonce.now) (length out.old) (length sealed.now) }
-    ensures answer { result ≡ tag_answer word32 (rounds_of word32 rounds) key.now nonce.now header.now sealed.now trailer.now out.old }
-    ensures output { out.new ≡ tag_out word32 (rounds_of word32 rounds) key.now nonce.now header.now sealed.now trailer.now out.old }
+) -> Result<(), Refusal>
+    ensures answer { result ≡ open_answer word32 rounds key.now nonce.now header.now sealed.now trailer.now out.old }
+    ensures output { out.new ≡ open_out word32 rounds key.now nonce.now header.now sealed.now trailer.now out.old }
 {
+    open_checks(
+        ROW,
+        TAG,
+        rounds,
+        key.len(),
+        nonce.len(),
+        header.len(),
+        sealed.len(),
+        trailer.len(),
+        out.len(),
+    )?;
     let k = row(key);
     let s = before_body(rounds, k, row(nonce), header);
     body32::open(s, rounds, k, sealed, trailer, out)
@@ -110,20 +119,6 @@ pub fn open(
     ensures promise { Opens word32 rounds key.now nonce.now header.now sealed.now trailer.now out.old (number_of result.answer) result.runs out.new }
 {
     let n = runs(header.len(), out.len(), trailer.len());
-    let checked = open_checks(
-        ROW,
-        TAG,
-        rounds,
-        key.len(),
-        nonce.len(),
-        header.len(),
-        sealed.len(),
-        trailer.len(),
-        out.len(),
-    );
-    if !done(checked) {
-        return reported(checked, n);
-    }
-    let verdict = open_checked(rounds, key, nonce, header, sealed, trailer, out);
-    reported(verdict, n)
+    let answer = try_open(rounds, key, nonce, header, sealed, trailer, out);
+    reported(answer, n)
 }

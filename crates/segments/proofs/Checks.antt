@@ -1,20 +1,21 @@
 -- What the numbers of a segment decide, as the code asks it, is what the definitions say; and what that leaves in the output.
 -- Assumes nothing.
 use mathlib.Core.Path.{◌≡◌, refl, sym, ap, ap₂, ◌∙◌}
-use mathlib.Core.Bool.{Bool, true, false, not, ◌&&◌, cond}
+use mathlib.Core.Bool.{Bool, true, false, false≢true, not, ◌&&◌, cond}
 use mathlib.Core.List.{List, []}
 use Prim.Native.Nat.{ℕ, ◌+◌, ◌-◌, ◌<◌}
 use native.Mathlib.Omega.{arith}
 use borrow.Author.Tests.{ltb-true}
 use lib.Dec.{ltb, leb, eqb}
 use lib.ListN.{length, length-append}
+use Rattle.std.specs.Prelude.{Ok, ⊤}
+use Rattle.answers.specs.declared.Refusal.{Refusal}
 use Rattle.norx.specs.Norx.{Width, row_bytes, tag_bits, bytes_of, sealed}
 use Rattle.norx.specs.Front.{eight_bytes, front_bytes}
-use Rattle.answers.specs.declared.Answer.{Answer}
-use Rattle.answers.specs.declared.Answer.TheVariants.{SegmentLength, AfterLast}
-use Rattle.answers.specs.Answers.{done_of, need_of}
+use Rattle.answers.specs.declared.Refusal.TheVariants.{SegmentLength, AfterLast}
+use Rattle.answers.specs.Answers.{Answer, done_of, need_of}
 use Rattle.answers.proofs.Tests.{cond_true, cond_false}
-use Rattle.answers.proofs.Chain.{link, passed, both}
+use Rattle.answers.proofs.Chain.{passed, both}
 use Rattle.rules.specs.Rules.{tag_bytes, segment_bytes, most_segments}
 use Rattle.rules.specs.Calls.{Exact, seal_checks, open_checks}
 use Rattle.rules.specs.OneCall.{seal_answer, seal_out, checked, tag_answer, tag_out, open_answer, open_out}
@@ -63,12 +64,12 @@ module _ (w : Width) (key nonce : List ℕ) (T : Terms) (note : List ℕ) (i : �
   segment_chain e f g =
       let as_one_call = e ∙ ap₂ (λ (n h : ℕ). seal_checks (row_bytes w) (tag_bytes w) T.rounds (length key) n h (length text) 0 (length out))
       (sym (nonce_long nonce i last)) (sym (header_long T note)) in
-      link SegmentLength g refl f as_one_call
+      g ∙ ap₂ (λ (a : Bool) (b : Answer). need_of a SegmentLength b) f as_one_call
 
   pub segment_passed : done_of (segment_answer w key nonce T note i last text out) ≡ true
       → (segment_ok i last (length text) ≡ true) × (done_of (seal_answer w T.rounds key own header text [] out) ≡ true)
   unfolding segment_answer
-  segment_passed e = passed (segment_ok i last (length text)) SegmentLength _ refl e
+  segment_passed e = passed (segment_ok i last (length text)) SegmentLength _ e
 
   pub segment_fits : done_of (segment_answer w key nonce T note i last text out) ≡ true
       → Exact (row_bytes w) (tag_bytes w) (length key) (length nonce + 8) (length text) (length out) × (terms_ok T ≡ true)
@@ -97,14 +98,14 @@ module _ (w : Width) (key nonce : List ℕ) (T : Terms) (note : List ℕ) (i : �
 -- ---- opening
 
 -- links ahead of a call whose own checks refuse or leave it to the tag
-links_answer : (b c : Bool) (x y one by_tag : Answer) → done_of (need_of b x (need_of c y one)) ≡ false
+links_answer : (b c : Bool) (x y : Refusal) (one by_tag : Answer) → done_of (need_of b x (need_of c y one)) ≡ false
     → need_of b x (need_of c y (cond (done_of one) by_tag one)) ≡ need_of b x (need_of c y one)
 unfolding need_of
 links_answer true true x y one by_tag e = cond_false _ _ _ e
 links_answer true false x y one by_tag e = refl
 links_answer false c x y one by_tag e = refl
 
-links_out : (b c : Bool) (x y one : Answer) (t o : List ℕ) → done_of (need_of b x (need_of c y one)) ≡ false → cond (b && c) (cond (done_of one) t o) o ≡ o
+links_out : (b c : Bool) (x y : Refusal) (one : Answer) (t o : List ℕ) → done_of (need_of b x (need_of c y one)) ≡ false → cond (b && c) (cond (done_of one) t o) o ≡ o
 unfolding need_of
 links_out true true x y one t o e = cond_false _ _ _ e
 links_out true false x y one t o e = refl
@@ -114,8 +115,18 @@ links_passed : (b c : Bool) (one by_tag : Answer) (t o : List ℕ) → b ≡ tru
     → (need_of b AfterLast (need_of c SegmentLength (cond (done_of one) by_tag one)) ≡ by_tag) × (cond (b && c) (cond (done_of one) t o) o ≡ t)
 unfolding need_of
 links_passed true true one by_tag t o p q r = (cond_true _ _ _ r, cond_true _ _ _ r)
-links_passed true false one by_tag t o p q r = let no : ◌≡◌ {A = ℕ} 0 1 = cc in absurd (omega arith)
-links_passed false c one by_tag t o p q r = let no : ◌≡◌ {A = ℕ} 0 1 = cc in absurd (omega arith)
+links_passed true false one by_tag t o p q r = absurd (false≢true q)
+links_passed false c one by_tag t o p q r = absurd (false≢true p)
+
+-- where the links refuse nothing, what comes behind them decides
+pub links_go_on : (W : Waiting) (last : Bool) (tag n : ℕ) {x : ⊤} {given rest : Answer} → Ok x ≡ take_links W last tag n (Ok tt) → given ≡ rest → given ≡ take_links W last tag n rest
+unfolding take_links need_of
+links_go_on W last tag n {x} {given} {rest} e f = go (not W.complete) (sealed_ok W.index last tag n) e
+  where
+    go : (b c : Bool) → Ok x ≡ need_of b AfterLast (need_of c SegmentLength (Ok tt)) → given ≡ need_of b AfterLast (need_of c SegmentLength rest)
+    go true true e = f
+    go true false e = cc
+    go false c e = cc
 
 module _ (w : Width) (key nonce : List ℕ) (T : Terms) (note : List ℕ) (W : Waiting) (last : Bool) (text out : List ℕ) where
   abbrev its_own : List ℕ
@@ -131,6 +142,7 @@ module _ (w : Width) (key nonce : List ℕ) (T : Terms) (note : List ℕ) (W : W
   abbrev numbers : Answer
   numbers = take_links W last (tag_bytes w) (length text) one_call
 
+  -- the code's chain is the definition's
   pub take_chain : {one r : Answer}
       → one ≡ open_checks (row_bytes w) (tag_bytes w) T.rounds (length key) (length nonce + 8) (front_bytes + length note) (length text) 0 (length out)
       → r ≡ take_links W last (tag_bytes w) (length text) one
@@ -144,8 +156,8 @@ module _ (w : Width) (key nonce : List ℕ) (T : Terms) (note : List ℕ) (W : W
   pub take_passed : done_of numbers ≡ true → ((not W.complete ≡ true) × (sealed_ok W.index last (tag_bytes w) (length text) ≡ true)) × (done_of one_call ≡ true)
   unfolding take_links
   take_passed e =
-      let a = passed (not W.complete) AfterLast _ refl e in
-      let b = passed (sealed_ok W.index last (tag_bytes w) (length text)) SegmentLength _ refl a.1 in
+      let a = passed (not W.complete) AfterLast _ e in
+      let b = passed (sealed_ok W.index last (tag_bytes w) (length text)) SegmentLength _ a.1 in
       ((a.0, b.0), b.1)
 
   pub take_fits : done_of numbers ≡ true → Exact (row_bytes w) (tag_bytes w) (length key) (length nonce + 8) (length out) (length text) × (terms_ok T ≡ true)
@@ -176,6 +188,6 @@ module _ (w : Width) (key nonce : List ℕ) (T : Terms) (note : List ℕ) (W : W
   pub take_below : done_of (take_answer w key nonce T note W last text out) ≡ true → W.index < most_segments
   unfolding take_answer take_links sealed_ok
   take_below e =
-      let a = passed (not W.complete) AfterLast _ refl e in
-      let b = passed (leb (tag_bytes w) (length text) && segment_ok W.index last (length text - tag_bytes w)) SegmentLength _ refl a.1 in
+      let a = passed (not W.complete) AfterLast _ e in
+      let b = passed (leb (tag_bytes w) (length text) && segment_ok W.index last (length text - tag_bytes w)) SegmentLength _ a.1 in
       index_below W.index last (length text - tag_bytes w) (both (leb (tag_bytes w) (length text)) (segment_ok W.index last (length text - tag_bytes w)) b.0).1

@@ -7,12 +7,12 @@ use mathlib.Core.List.{List, [], ◌∷◌, ◌++◌}
 use Prim.Native.Nat.{ℕ, ◌+◌}
 use native.Mathlib.Omega.{arith}
 use native.Mathlib.Nat.{zero-add}
-use borrow.Author.Tests.{eqb-true, eqb-false, ne_eqb}
+use borrow.Author.Tests.{eqb-true, eqb-false}
 use lib.Dec.{eqb}
 use lib.ListN.{length}
+use Rattle.answers.proofs.Chain.{not_done}
 use Rattle.norx.specs.Norx.{Width}
-use Rattle.answers.specs.declared.Answer.{Answer}
-use Rattle.answers.specs.Answers.{number_of, done_of}
+use Rattle.answers.specs.Answers.{Answer, done_of}
 use Rattle.answers.proofs.Tests.{either, cond_true, cond_false}
 use Rattle.places.specs.declared.terms.Terms.{Terms}
 use Rattle.cutting.specs.declared.Waiting.{Waiting}
@@ -172,7 +172,7 @@ module _ (w : Width) (key nonce : List ℕ) (T : Terms) where
     in_order = ordered os;
     counted = counted_from w os S ∙ ap (λ (W : Waiting). W.index + length (taken_in w S os)) waits_first ∙ zero-add (length (taken_in w S os));
     complete = complete_from w os S (ap (λ (W : Waiting). W.complete) waits_first);
-    refused_start = λ h. none_after os (ne_eqb (number_of begun) 0 h);
+    refused_start = λ h. none_after os (not_done begun h);
     ended = λ e o.
         let R : Receiving = after_offers w S os in
         let after = (takes w R o).after_last.1 e in

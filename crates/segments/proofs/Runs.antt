@@ -9,8 +9,7 @@ use lib.ListN.{length}
 use Rattle.norx.specs.Norx.{Width, word32, word64}
 use Rattle.norx.specs.Front.{front_bytes}
 use Rattle.norx.specs.Runs.{part_runs, sealing_runs}
-use Rattle.answers.specs.declared.Answer.{Answer}
-use Rattle.answers.specs.Answers.{number_of, runs_with}
+use Rattle.answers.specs.Answers.{Answer, number_of, runs_with}
 use Rattle.answers.proofs.Runs.{report_most}
 use Rattle.rules.specs.Limits.{PartLimits}
 use Rattle.rules.specs.Runs.{runs_within, ReportsRuns}

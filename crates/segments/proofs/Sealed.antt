@@ -6,18 +6,17 @@ use mathlib.Core.Logic.{◌⊎◌, inl, inr, ⊎_elim, ◌≢◌}
 use mathlib.Core.List.{List, []}
 use Prim.Native.Nat.{ℕ, ◌+◌, ◌≤◌}
 use native.Mathlib.Omega.{arith}
-use borrow.Author.Tests.{ne_eqb}
 use lib.ListN.{length}
+use Rattle.std.specs.Prelude.{Err}
 use Rattle.norx.specs.Norx.{Width, tag_bits, sealed}
 use Rattle.norx.specs.Front.{front_bytes}
 use Rattle.norx.specs.Runs.{counted_runs, sealing_runs}
 use Rattle.norx.proofs.Bytes.{zeros, length-zeros}
 use Rattle.norx.proofs.Runs.{counts_sealing}
-use Rattle.answers.specs.declared.Answer.{Answer}
-use Rattle.answers.specs.declared.Answer.TheVariants.{SegmentLength}
-use Rattle.answers.specs.Answers.{number_of, need_of, runs_with}
+use Rattle.answers.specs.declared.Refusal.TheVariants.{SegmentLength}
+use Rattle.answers.specs.Answers.{Answer, number_of, need_of, runs_with}
 use Rattle.answers.proofs.Tests.{either, cond_true, cond_false}
-use Rattle.answers.proofs.Chain.{done_zero, zero_done}
+use Rattle.answers.proofs.Chain.{done_zero, zero_done, not_done}
 use Rattle.answers.proofs.Runs.{reported_with}
 use Rattle.rules.specs.Limits.{widths_length}
 use Rattle.rules.specs.OneCall.{seal_answer}
@@ -53,7 +52,7 @@ module _ (w : Width) (key nonce : List ℕ) (T : Terms) (note : List ℕ) (i : �
   unfolding segment_answer need_of
   as_one_call e = cond_true _ _ _ e
 
-  wrong : segment_ok i last (length text) ≡ false → answer ≡ SegmentLength
+  wrong : segment_ok i last (length text) ≡ false → answer ≡ Err SegmentLength
   unfolding segment_answer need_of
   wrong e = cond_false _ _ _ e
 
@@ -112,7 +111,7 @@ module _ (w : Width) (key nonce : List ℕ) (T : Terms) (note : List ℕ) (i : �
     as_defined = as_defined;
     only_there = only_there;
     wrong_length = (λ e rule. not_13 rule e, is_13);
-    kept = λ h. segment_kept w key nonce T note i last text out (ne_eqb (number_of answer) 0 h);
+    kept = λ h. segment_kept w key nonce T note i last text out (not_done answer h);
     reports = reported;
     at_most = most;
   }

@@ -4,13 +4,11 @@ use mathlib.Core.Path.{◌≡◌, ap, ◌∙◌}
 use mathlib.Core.List.{List}
 use Prim.Native.Nat.{ℕ, ◌+◌}
 use native.Mathlib.Omega.{arith}
-use borrow.Author.Tests.{ne_eqb}
 use lib.Dec.{lit≤}
 use lib.ListN.{length}
 use Rattle.norx.specs.Norx.{Width}
-use Rattle.answers.specs.declared.Answer.{Answer}
-use Rattle.answers.specs.Answers.{number_of}
-use Rattle.answers.proofs.Chain.{zero_done}
+use Rattle.answers.specs.Answers.{Answer, number_of}
+use Rattle.answers.proofs.Chain.{zero_done, not_done}
 use Rattle.places.specs.declared.terms.Terms.{Terms}
 use Rattle.places.proofs.Accepts.{start_limits}
 use Rattle.segments.specs.Rule.{JobLimits}
@@ -39,5 +37,5 @@ module _ (w : Width) (key nonce : List ℕ) (T : Terms) where
   starts_receiver = record {
     within_limits = (within_from, within_to);
     begins = λ e. start_fresh w key nonce T (zero_done begun e);
-    refused = λ h. start_none w key nonce T (ne_eqb (number_of begun) 0 h);
+    refused = λ h. start_none w key nonce T (not_done begun h);
   }

@@ -7,13 +7,14 @@ use Prim.Native.Nat.{ℕ, ◌+◌}
 use native.Mathlib.Nat.{zero-add}
 use lib.Dec.{eqb}
 use lib.ListN.{length, replicate}
+use Rattle.std.specs.Prelude.{Err}
+use Rattle.answers.specs.Answers.{Answer}
 use Rattle.norx.specs.Norx.{Width, row_bytes, tag_bits, State, row_of, header_mark, start, after_part, sealed}
 use Rattle.norx.specs.Front.{front_bytes}
 use Rattle.norx.specs.Stream.{fed, ended}
 use Rattle.norx.proofs.Bytes.{Bytes, bytes_append}
 use Rattle.norx.proofs.Stream.{fed-append, fed_part}
-use Rattle.answers.specs.declared.Answer.{Answer}
-use Rattle.answers.specs.declared.Answer.TheVariants.{OutputLength}
+use Rattle.answers.specs.declared.Refusal.TheVariants.{OutputLength}
 use Rattle.answers.proofs.Tests.{cond_equal}
 use Rattle.rules.specs.Rules.{tag_bytes}
 use Rattle.rules.specs.Calls.{Exact, answer_of, out_of}
@@ -64,7 +65,7 @@ module _ (w : Width) (key nonce : List ℕ) (T : Terms) (note : List ℕ) (i : �
     segment_sealed_of exact e = sealed_of_whole w l key own header text [] exact.key_long hk behind out exact.text_long e
 
     pub segment_opened_of : Exact (row_bytes w) (tag_bytes w) (length key) (length nonce + 8) (length out) (length text) → {r : Answer} {y : List ℕ}
-        → r ≡ cond (eqb (length text) (length out + tag_bytes w)) (answer_of (opened_from w T.rounds (tag_bits w) k s text [])) OutputLength
+        → r ≡ cond (eqb (length text) (length out + tag_bytes w)) (answer_of (opened_from w T.rounds (tag_bits w) k s text [])) (Err OutputLength)
         → y ≡ cond (eqb (length text) (length out + tag_bytes w)) (out_of (opened_from w T.rounds (tag_bits w) k s text []) (length out)) out
         → (r ≡ tag_answer w T.rounds key (segment_nonce nonce i last) (segment_header T note) text [] out)
         × (y ≡ tag_out w T.rounds key (segment_nonce nonce i last) (segment_header T note) text [] out)

@@ -7,20 +7,19 @@ use mathlib.Core.List.{List, []}
 use mathlib.Core.Option.{Option, none, some}
 use Prim.Native.Nat.{ℕ, ◌+◌, ◌-◌, ◌<◌, ◌≤◌}
 use native.Mathlib.Omega.{arith}
-use borrow.Author.Tests.{ne_eqb}
 use lib.Dec.{leb, eqb}
 use lib.ListN.{length, replicate}
+use Rattle.std.specs.Prelude.{Ok, Err}
 use Rattle.norx.specs.Norx.{Width, row_bytes, tag_bits, recovered, opened}
 use Rattle.norx.specs.Front.{front_bytes}
 use Rattle.norx.specs.Runs.{counted_runs, sealing_runs}
 use Rattle.norx.specs.Texts.{Bytes, SealsTo}
 use Rattle.norx.proofs.Opening.{length-sealed}
 use Rattle.norx.proofs.Runs.{counts_sealing, length-recovered}
-use Rattle.answers.specs.declared.Answer.{Answer}
-use Rattle.answers.specs.declared.Answer.TheVariants.{Done, KeyLength, RoundsNumber, TagLength, OverLimit, OutputLength, SegmentLength, AfterLast}
-use Rattle.answers.specs.Answers.{number_of, done_of, need_of, runs_with}
+use Rattle.answers.specs.declared.Refusal.TheVariants.{KeyLength, RoundsNumber, TagLength, OverLimit, OutputLength, SegmentLength, AfterLast}
+use Rattle.answers.specs.Answers.{Answer, number_of, done_of, need_of, runs_with}
 use Rattle.answers.proofs.Tests.{either, cond_true, cond_false}
-use Rattle.answers.proofs.Chain.{zero_done, link_not, both}
+use Rattle.answers.proofs.Chain.{zero_done, link_not, both, not_done}
 use Rattle.answers.proofs.Runs.{same_report}
 use Rattle.rules.specs.Rules.{within, rounds_ok, lengths_ok, tag_bytes}
 use Rattle.rules.specs.Limits.{widths_length}
@@ -56,7 +55,7 @@ not_3 row tag l key nonce header text out e =
     (link_not 3 (lengths_ok row key nonce) KeyLength _ (λ z. omega arith)
     (tagged (leb tag text) _ e
     (link_not 3 (within header (text - tag) 0) OverLimit _ (λ z. omega arith)
-    (link_not 3 (eqb out (text - tag)) OutputLength Done (λ z. omega arith) (λ z. omega arith)))))
+    (link_not 3 (eqb out (text - tag)) OutputLength (Ok tt) (λ z. omega arith) (λ z. omega arith)))))
 
 module _ (w : Width) (R : Receiving) (note : List ℕ) (last : Bool) (text out : List ℕ) where
   abbrev i : ℕ
@@ -85,11 +84,11 @@ module _ (w : Width) (R : Receiving) (note : List ℕ) (last : Bool) (text out :
 
   -- ---- three ways: complete, a wrong length, and as one call
 
-  complete_14 : R.waiting.complete ≡ true → (answer ≡ AfterLast) × (after ≡ out)
+  complete_14 : R.waiting.complete ≡ true → (answer ≡ Err AfterLast) × (after ≡ out)
   unfolding take_answer take_out take_links need_of
   complete_14 e = (rw e refl, rw e refl)
 
-  wrong_13 : R.waiting.complete ≡ false → ok ≡ false → (answer ≡ SegmentLength) × (after ≡ out)
+  wrong_13 : R.waiting.complete ≡ false → ok ≡ false → (answer ≡ Err SegmentLength) × (after ≡ out)
   unfolding take_answer take_out take_links need_of
   wrong_13 e f = (rw (e, f) refl, rw (e, f) refl)
 
@@ -262,5 +261,5 @@ module _ (w : Width) (R : Receiving) (note : List ℕ) (last : Bool) (text out :
       reports = reported;
       at_most = most;
       goes_on = λ z. taking_next w R note last text out (zero_done answer z);
-      stays = λ h. taking_same w R note last text out (ne_eqb (number_of answer) 0 h);
+      stays = λ h. taking_same w R note last text out (not_done answer h);
     }

@@ -2,8 +2,7 @@
 -- Assumes nothing.
 use Rattle.std.specs.Prelude.{ℕ, ◌+◌, ◌-◌, Bool, cond, List, length, replicate}
 use Rattle.norx.specs.Norx.{Width, row_bytes}
-use Rattle.answers.specs.declared.Answer.{Answer}
-use Rattle.answers.specs.Answers.{done_of}
+use Rattle.answers.specs.Answers.{Answer, done_of}
 use Rattle.places.specs.declared.terms.Terms.{Terms}
 use Rattle.places.specs.Terms.{no_terms}
 use Rattle.places.specs.Places.{start_answer}

@@ -4,9 +4,8 @@ use Rattle.std.specs.Prelude.{ℕ, ◌-◌, Bool, not, ◌&&◌, cond, List, [],
 use Rattle.norx.specs.Norx.{Width}
 use Rattle.norx.specs.Front.{eight_bytes}
 use Rattle.norx.specs.Runs.{sealing_runs}
-use Rattle.answers.specs.declared.Answer.{Answer}
-use Rattle.answers.specs.declared.Answer.TheVariants.{SegmentLength}
-use Rattle.answers.specs.Answers.{need_of, runs_with}
+use Rattle.answers.specs.declared.Refusal.TheVariants.{SegmentLength}
+use Rattle.answers.specs.Answers.{Answer, need_of, runs_with}
 use Rattle.rules.specs.Rules.{tag_bytes}
 use Rattle.rules.specs.OneCall.{seal_answer, seal_out, open_answer, open_out}
 use Rattle.places.specs.declared.terms.Terms.{Terms}

@@ -7,7 +7,7 @@ ghost use Rattle.rules.specs.Rules.{most_segments};
 ghost use Rattle.cutting.specs.Cutting.{waiting_next};
 ghost use Rattle.segments.specs.Segments.{segment_answer_at, segment_runs_at, segment_out_at, take_answer_at, take_runs_at, take_out_at};
 
-use answers::{Answer, Outcome, number};
+use answers::{Outcome, Refusal};
 use cutting::Waiting;
 use places::terms::Terms;
 
@@ -27,18 +27,17 @@ pub(crate) fn join(first: &[u8], second: &[u8], out: &mut [u8])
 }
 
 // Where a receiver waits after an answer: for the next segment where that is 0, and complete where the one before it was the last.
-pub(crate) fn next(waiting: Waiting, answer: Answer, last: bool) -> Waiting
+#[tactic(auto, unfolding(cutting::specs::Cutting::waiting_next))]
+pub(crate) fn next(waiting: Waiting, answer: Result<(), Refusal>, last: bool) -> Waiting
     requires { number_of answer ≡ 0 → waiting.index < most_segments }
     ensures { result ≡ waiting_next waiting answer last }
 {
-    if number(answer) == 0 {
-        let index = waiting.index + 1;
-        Waiting {
-            index,
+    match answer {
+        Ok(()) => Waiting {
+            index: waiting.index + 1,
             complete: last,
-        }
-    } else {
-        waiting
+        },
+        Err(_) => waiting,
     }
 }
 
@@ -65,7 +64,7 @@ pub fn seal(
         return w64::seal(key, nonce, terms, note, index, last, body, out);
     }
     Outcome {
-        answer: Answer::WidthNumber,
+        answer: Err(Refusal::WidthNumber),
         runs: 0,
     }
 }
@@ -93,7 +92,7 @@ pub fn open(
         return w64::open(key, nonce, terms, note, waiting, last, sealed, out);
     }
     Outcome {
-        answer: Answer::WidthNumber,
+        answer: Err(Refusal::WidthNumber),
         runs: 0,
     }
 }

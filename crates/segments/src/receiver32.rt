@@ -7,7 +7,7 @@ ghost use Rattle.segments.specs.Structs.{seen32, made32};
 
 use super::w32::open;
 use crate::next;
-use answers::{Answer, done};
+use answers::{Outcome, Refusal};
 use cutting::Waiting;
 use places::start_answer;
 use places::terms::{Edition, Terms};
@@ -26,14 +26,14 @@ pub struct Receiver {
 // What a start answers, and the receiver to go on with.
 #[derive(Clone, Copy)]
 pub struct ReceiverStep {
-    pub answer: Answer,
+    pub answer: Result<(), Refusal>,
     pub receiver: Receiver,
 }
 
 // What taking a segment answers, how many times P ran, and the receiver to go on with.
 #[derive(Clone, Copy)]
 pub struct ReceiverTake {
-    pub answer: Answer,
+    pub answer: Result<(), Refusal>,
     pub runs: u32,
     pub receiver: Receiver,
 }
@@ -44,19 +44,11 @@ impl Receiver {
         ensures { result ≡ record { answer = starts_answer word32 key.now nonce.now terms; receiver = made32 (starts_with word32 key.now nonce.now terms) } }
     {
         let answer = start_answer(ROW, terms, key.len(), nonce.len() + SEGMENT_NUMBER);
-        if done(answer) {
-            let fresh = Receiver::fresh(key, nonce, terms);
-            ReceiverStep {
-                answer,
-                receiver: fresh,
-            }
-        } else {
-            let none = Receiver::none();
-            ReceiverStep {
-                answer,
-                receiver: none,
-            }
-        }
+        let receiver = match answer {
+            Ok(()) => Receiver::fresh(key, nonce, terms),
+            Err(_) => Receiver::none(),
+        };
+        ReceiverStep { answer, receiver }
     }
 
     // Takes the segment that it waits for, and then waits for the next; or refuses it, and waits for the same.
@@ -64,21 +56,21 @@ impl Receiver {
         ensures step { result ≡ record { answer = taking_answer word32 (seen32 self) note.now last sealed.now out.old; runs = taking_runs word32 (seen32 self) note.now last sealed.now out.old; receiver = made32 (after_taking word32 (seen32 self) note.now last sealed.now out.old) } }
         ensures output { out.new ≡ taking_out word32 (seen32 self) note.now last sealed.now out.old }
     {
-        let key = self.key;
-        let nonce = self.nonce;
-        let terms = self.terms;
-        let waiting = self.waiting;
-        let outcome = open(&key, &nonce, terms, note, waiting, last, sealed, out);
-        let answer = outcome.answer;
-        let waiting = next(waiting, answer, last);
+        let Receiver {
+            key,
+            nonce,
+            terms,
+            waiting,
+        } = self;
+        let Outcome { answer, runs } = open(&key, &nonce, terms, note, waiting, last, sealed, out);
         ReceiverTake {
             answer,
-            runs: outcome.runs,
+            runs,
             receiver: Receiver {
                 key,
                 nonce,
                 terms,
-                waiting,
+                waiting: next(waiting, answer, last),
             },
         }
     }

@@ -1,14 +1,11 @@
 // One segment sealed and one opened at 32-bit words. Nonce is the job's, eight bytes shorter than NORX's.
-ghost use Rattle.std.specs.Prelude.{◌≡◌, true, [], ◌+◌, length};
-ghost use Rattle.norx.specs.Norx.{word32, row_bytes, tag_bits, row_of, header_mark, after_part, start as norx_start, sealed as sealed_of};
-ghost use Rattle.rules.specs.Rules.{tag_bytes};
-ghost use Rattle.rules.specs.Calls.{Exact};
-ghost use Rattle.rules.specs.OneCall.{tag_answer, tag_out};
+ghost use Rattle.std.specs.Prelude.{◌≡◌, true, ◌+◌, length};
+ghost use Rattle.norx.specs.Norx.{word32, row_bytes, tag_bits, row_of, header_mark, after_part, start as norx_start};
 ghost use Rattle.places.specs.Terms.{terms_ok};
 ghost use Rattle.segments.specs.Segments.{segment_nonce, segment_header, segment_answer, segment_runs, segment_out, take_answer, take_runs, take_out};
 
 use crate::join;
-use answers::{Answer, Outcome, done, need, reported};
+use answers::{Outcome, Refusal, need, reported};
 use blocks32::ends::{row, start};
 use cutting::{Waiting, number, segment_ok, take_links};
 use places::front::front;
@@ -42,8 +39,9 @@ fn before_body(terms: Terms, key: Row, nonce: &[u8], note: &[u8]) -> State
     end(noted, rounds, HEADER_MARK, FRONT + note.len())
 }
 
-// Seals where the numbers refuse nothing.
-fn seal_checked(
+// Seals where the numbers refuse nothing, and else changes nothing.
+#[tactic(auto, using(crate::proofs::Checks::nonce_long, crate::proofs::Checks::header_long), unfolding(answers::specs::Answers::need_of, rules::specs::Calls::seal_checks, rules::specs::OneCall::seal_answer, rules::specs::OneCall::seal_out, crate::specs::Segments::segment_answer, crate::specs::Segments::segment_out))]
+fn try_seal(
     key: &[u8],
     nonce: &[u8],
     terms: Terms,
@@ -52,14 +50,27 @@ fn seal_checked(
     last: bool,
     body: &[u8],
     out: &mut [u8],
-)
-    requires { Exact (row_bytes word32) (tag_bytes word32) (length key.now) (length nonce.now + 8) (length body.now) (length out.old) × (terms_ok terms ≡ true) }
-    ensures { out.new ≡ sealed_of word32 terms.rounds (tag_bits word32) key.now (segment_nonce nonce.now index last) (segment_header terms note.now) body.now [] }
+) -> Result<(), Refusal>
+    ensures answer { result ≡ segment_answer word32 key.now nonce.now terms note.now index last body.now out.old }
+    ensures output { out.new ≡ segment_out word32 key.now nonce.now terms note.now index last body.now out.old }
 {
+    need(segment_ok(index, last, body.len()), Refusal::SegmentLength)?;
+    seal_checks(
+        ROW,
+        TAG,
+        terms.rounds,
+        key.len(),
+        nonce.len() + SEGMENT_NUMBER,
+        FRONT + note.len(),
+        body.len(),
+        0,
+        out.len(),
+    )?;
     let k = row(key);
     let n = nonce_of(nonce, index, last);
     let s = before_body(terms, k, &n, note);
-    body32::seal(s, terms.rounds, k, body, &note[0..0], out);
+    body32::seal(s, terms.rounds, k, body, &[], out);
+    Ok(())
 }
 
 // Seals a segment: ciphertext and tag are written to the output, which is as long as both.
@@ -78,48 +89,41 @@ pub fn seal(
     ensures output { out.new ≡ segment_out word32 key.now nonce.now terms note.now index last body.now out.old }
 {
     let n = runs(FRONT + note.len(), body.len(), 0);
-    let as_one_call = seal_checks(
+    let answer = try_seal(key, nonce, terms, note, index, last, body, out);
+    reported(answer, n)
+}
+
+// Opens where the numbers refuse nothing, by its tag; and else changes nothing.
+#[tactic(auto, using(crate::proofs::Checks::nonce_long, crate::proofs::Checks::header_long), unfolding(answers::specs::Answers::need_of, rules::specs::Calls::open_checks, rules::specs::OneCall::open_answer, rules::specs::OneCall::open_out, cutting::specs::Cutting::take_links, crate::specs::Segments::take_answer, crate::specs::Segments::take_out))]
+fn try_open(
+    key: &[u8],
+    nonce: &[u8],
+    terms: Terms,
+    note: &[u8],
+    waiting: Waiting,
+    last: bool,
+    sealed: &[u8],
+    out: &mut [u8],
+) -> Result<(), Refusal>
+    ensures answer { result ≡ take_answer word32 key.now nonce.now terms note.now waiting last sealed.now out.old }
+    ensures output { out.new ≡ take_out word32 key.now nonce.now terms note.now waiting last sealed.now out.old }
+{
+    take_links(waiting, last, TAG, sealed.len())?;
+    open_checks(
         ROW,
         TAG,
         terms.rounds,
         key.len(),
         nonce.len() + SEGMENT_NUMBER,
         FRONT + note.len(),
-        body.len(),
+        sealed.len(),
         0,
         out.len(),
-    );
-    let answer = need(
-        segment_ok(index, last, body.len()),
-        Answer::SegmentLength,
-        as_one_call,
-    );
-    if !done(answer) {
-        return reported(answer, n);
-    }
-    seal_checked(key, nonce, terms, note, index, last, body, out);
-    reported(answer, n)
-}
-
-// Opens where the numbers refuse nothing: the tag decides.
-fn open_checked(
-    key: &[u8],
-    nonce: &[u8],
-    terms: Terms,
-    note: &[u8],
-    index: u64,
-    last: bool,
-    sealed: &[u8],
-    out: &mut [u8],
-) -> Answer
-    requires { Exact (row_bytes word32) (tag_bytes word32) (length key.now) (length nonce.now + 8) (length out.old) (length sealed.now) × (terms_ok terms ≡ true) }
-    ensures answer { result ≡ tag_answer word32 terms.rounds key.now (segment_nonce nonce.now index last) (segment_header terms note.now) sealed.now [] out.old }
-    ensures output { out.new ≡ tag_out word32 terms.rounds key.now (segment_nonce nonce.now index last) (segment_header terms note.now) sealed.now [] out.old }
-{
+    )?;
     let k = row(key);
-    let n = nonce_of(nonce, index, last);
+    let n = nonce_of(nonce, waiting.index, last);
     let s = before_body(terms, k, &n, note);
-    body32::open(s, terms.rounds, k, sealed, &note[0..0], out)
+    body32::open(s, terms.rounds, k, sealed, &[], out)
 }
 
 // Opens the segment that a receiver waits for: its message is written to the output, which is as long as the segment less its tag; zeros where the tag differs.
@@ -138,21 +142,6 @@ pub fn open(
     ensures output { out.new ≡ take_out word32 key.now nonce.now terms note.now waiting last sealed.now out.old }
 {
     let n = runs(FRONT + note.len(), out.len(), 0);
-    let as_one_call = open_checks(
-        ROW,
-        TAG,
-        terms.rounds,
-        key.len(),
-        nonce.len() + SEGMENT_NUMBER,
-        FRONT + note.len(),
-        sealed.len(),
-        0,
-        out.len(),
-    );
-    let checked = take_links(waiting, last, TAG, sealed.len(), as_one_call);
-    if !done(checked) {
-        return reported(checked, n);
-    }
-    let verdict = open_checked(key, nonce, terms, note, waiting.index, last, sealed, out);
-    reported(verdict, n)
+    let answer = try_open(key, nonce, terms, note, waiting, last, sealed, out);
+    reported(answer, n)
 }

@@ -5,13 +5,13 @@ use mathlib.Core.Bool.{true, false}
 use mathlib.Core.Logic.{◌↔◌}
 use mathlib.Core.List.{List, [], ◌∷◌, ◌++◌}
 use Prim.Native.Nat.{ℕ}
-use borrow.Author.Tests.{le-leb, ne_eqb}
+use borrow.Author.Tests.{le-leb}
 use lib.ListN.{length}
 use Rattle.norx.specs.Norx.{row_bytes}
 use Rattle.norx.proofs.Bytes.{Bytes, bytes_nil, bytes_append}
 use Rattle.answers.specs.Answers.{number_of, done_of}
 use Rattle.answers.proofs.Tests.{cond_true, cond_false}
-use Rattle.answers.proofs.Chain.{zero_done}
+use Rattle.answers.proofs.Chain.{zero_done, not_done}
 use Rattle.rules.specs.Limits.{StartLimits}
 use Rattle.places.specs.declared.terms.Terms.{Terms}
 use Rattle.places.specs.declared.Part.{Part}
@@ -67,7 +67,7 @@ module _ (K : Kind) (L : Lawful K) (key nonce : List ℕ) (T : Terms) where
   unfolding start_of
   not_started h =
       let refused : done_of (start_answer (row_bytes K.width) T (length key) (length nonce)) ≡ false =
-      ne_eqb (number_of (start_answer (row_bytes K.width) T (length key) (length nonce))) 0 (λ z. h (ap number_of answer_start ∙ z)) in
+      not_done (start_answer (row_bytes K.width) T (length key) (length nonce)) (λ z. h (ap number_of answer_start ∙ z)) in
       L.stepped _ _ ∙ cond_false _ _ _ refused
 
   pub start_limits_of : Started K key nonce T ↔ StartLimits K.width T.rounds (length key) (length nonce)

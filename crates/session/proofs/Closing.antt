@@ -6,10 +6,10 @@ use mathlib.Core.Logic.{◌⊎◌}
 use mathlib.Core.List.{List}
 use Prim.Native.Nat.{ℕ, ◌/◌}
 use lib.ListN.{length}
+use Rattle.std.specs.Prelude.{Ok}
 use Rattle.norx.proofs.Bytes.{Bytes}
 use Rattle.norx.specs.Norx.{row_of}
 use Rattle.norx.specs.Runs.{sealing_runs}
-use Rattle.answers.specs.declared.Answer.TheVariants.{Done}
 use Rattle.answers.specs.Answers.{number_of, done_of}
 use Rattle.answers.proofs.Tests.{cond_true}
 use Rattle.answers.proofs.Runs.{reported_with}
@@ -57,7 +57,7 @@ module _ (K : Kind) (L : Lawful K) (key nonce : List ℕ) (T : Terms) (begins : 
   abbrev at_end : K.Session
   at_end = held_by K key nonce T (accepted_from K key nonce T qs)
 
-  pub own_closing : (given : List ℕ) → length given ≡ tag_length K → close_answer_of K (held_by K key nonce T (accepted_from K key nonce T qs)) T.edition given ≡ Done
+  pub own_closing : (given : List ℕ) → length given ≡ tag_length K → close_answer_of K (held_by K key nonce T (accepted_from K key nonce T qs)) T.edition given ≡ (Ok tt)
   unfolding close_answer_of
   own_closing given h =
       ap (λ (p : Place). close_answer p T.edition (tag_length K) (length given)) (place_held K L key nonce T part n b t)

@@ -9,12 +9,13 @@ use Prim.Native.Nat.{ℕ, ◌-◌, ◌/◌, ◌≤◌}
 use native.Mathlib.Omega.{arith}
 use lib.ListN.{length, length-append}
 use lib.Seq.{take_at, drop_at}
+use Rattle.std.specs.Prelude.{Ok}
 use Rattle.places.specs.declared.Part.{Part}
 use Rattle.norx.specs.Norx.{row_bytes, message, same, body_part, tag_part, recovered, opened}
 use Rattle.norx.specs.Runs.{counted_runs, sealing_runs}
 use Rattle.norx.proofs.Bytes.{Bytes, bytes_append}
 use Rattle.norx.proofs.Runs.{counts_sealing, length-recovered}
-use Rattle.answers.specs.declared.Answer.TheVariants.{Done, TagDiffers}
+use Rattle.answers.specs.declared.Refusal.TheVariants.{TagDiffers}
 use Rattle.answers.specs.Answers.{number_of, need_of}
 use Rattle.answers.proofs.Runs.{reported_with}
 use Rattle.rules.specs.Calls.{answer_of}
@@ -53,7 +54,7 @@ module _ (K : Kind) (L : Lawful K) (key nonce : List ℕ) (T : Terms) (begins : 
   cut : (given : List ℕ) → length given ≡ tag_length K → length (text given) - tag_length K ≡ length b
   cut given h = omega (arith, length-append b given)
 
-  verdict_is : (x : Bool) (m : List ℕ) → need_of x TagDiffers Done ≡ answer_of (cond x (some m) none)
+  verdict_is : (x : Bool) (m : List ℕ) → need_of x TagDiffers (Ok tt) ≡ answer_of (cond x (some m) none)
   unfolding need_of
   verdict_is true m = refl
   verdict_is false m = refl

@@ -6,13 +6,13 @@ use mathlib.Core.Logic.{inl}
 use mathlib.Core.List.{List, [], ◌++◌}
 use Prim.Native.Nat.{ℕ}
 use lib.ListN.{length}
+use Rattle.std.specs.Prelude.{Ok}
 use Rattle.places.specs.declared.Part.{Part}
 use Rattle.norx.proofs.Bytes.{Bytes}
 use Rattle.norx.specs.Norx.{ciphertext, sealed}
 use Rattle.norx.specs.Stream.{fed_text}
 use Rattle.norx.specs.Runs.{sealing_runs}
 use Rattle.norx.proofs.Runs.{counts_sealing}
-use Rattle.answers.specs.declared.Answer.TheVariants.{Done}
 use Rattle.answers.specs.Answers.{number_of, done_of}
 use Rattle.answers.proofs.Tests.{cond_true}
 use Rattle.answers.proofs.Runs.{reported_with}
@@ -61,7 +61,7 @@ module _ (K : Kind) (L : Lawful K) (key nonce : List ℕ) (T : Terms) (begins : 
       ∙ cond_true _ _ _ (ap done_of (own_closing K L key nonce T begins qs given h)) ∙ own_tag_lem K L key nonce T begins qs
       ∙ ap (λ (way : Way). tag_as_one K key nonce T n (brought_body K key nonce T way n b) t) seals
 
-  one_answer : (given : List ℕ) → length given ≡ tag_length K → K.answer (close_of K (after_start K key nonce T qs) T.edition given) ≡ Done
+  one_answer : (given : List ℕ) → length given ≡ tag_length K → K.answer (close_of K (after_start K key nonce T qs) T.edition given) ≡ (Ok tt)
   one_answer given h =
       ap (λ (x : K.Step). K.answer x) (close_is K L key nonce T begins qs given h) ∙ L.answered _ _ ∙ ap (λ (way : Way). verdict_of way given (own_tag K (held_by K key nonce T (accepted_from K key nonce T qs)))) seals
 

@@ -6,14 +6,13 @@ use mathlib.Core.Logic.{◌⊎◌, inl, inr, ⊎_elim, ◌↔◌, ◌≢◌}
 use mathlib.Core.List.{List, [], ◌∷◌, ◌++◌}
 use Prim.Native.Nat.{ℕ}
 use native.Mathlib.Omega.{arith}
-use borrow.Author.Tests.{ne_eqb}
 use lib.ListN.{length}
+use Rattle.std.specs.Prelude.{Ok, Err}
 use Rattle.norx.specs.Norx.{tag_bits, same}
-use Rattle.answers.specs.declared.Answer.{Answer}
-use Rattle.answers.specs.declared.Answer.TheVariants.{Done, NotSound, TagDiffers}
-use Rattle.answers.specs.Answers.{number_of, done_of, need_of}
+use Rattle.answers.specs.declared.Refusal.TheVariants.{NotSound, TagDiffers}
+use Rattle.answers.specs.Answers.{Answer, number_of, done_of, need_of}
 use Rattle.answers.proofs.Tests.{either, cond_true, cond_false}
-use Rattle.answers.proofs.Chain.{zero_done}
+use Rattle.answers.proofs.Chain.{zero_done, not_done, by_number}
 use Rattle.places.specs.declared.terms.Edition.{Edition}
 use Rattle.places.specs.declared.Label.{Label}
 use Rattle.places.specs.declared.Place.{Place}
@@ -50,7 +49,7 @@ module _ (K : Kind) (L : Lawful K) where
   answer_to s q = piece_answer_of K s q.label q.bytes q.out
 
   pub accepted_answer : (s : K.Session) (q : Piece) → is_accepted K s q ≡ done_of (answer_to s q)
-  accepted_answer s q = ap done_of (piece_answered s q.label q.bytes q.out)
+  accepted_answer s q = by_number (K.answer (piece_of K s q.label q.bytes q.out)) ∙ ap done_of (piece_answered s q.label q.bytes q.out)
 
   pub refused_session : (s : K.Session) (q : Piece) → is_accepted K s q ≡ false → after_piece K s q ≡ s
   refused_session s q h = (piece_refused s q.label q.bytes q.out (sym (accepted_answer s q) ∙ h)).0
@@ -118,7 +117,7 @@ module _ (K : Kind) (L : Lawful K) where
   pub ended_close : (s : K.Session) (c : Close) → done_of (close_to s c) ≡ true → after_call K s (close c) ≡ closed_of K
   ended_close s c h = (close_ended s c.edition c.tag h).1
 
-  by_tag : (x : Bool) → (number_of (need_of x TagDiffers Done) ≡ 0) ⊎ (number_of (need_of x TagDiffers Done) ≡ 10)
+  by_tag : (x : Bool) → (number_of (need_of x TagDiffers (Ok tt)) ≡ 0) ⊎ (number_of (need_of x TagDiffers (Ok tt)) ≡ 10)
   unfolding need_of
   by_tag true = inl refl
   by_tag false = inr refl
@@ -137,7 +136,7 @@ module _ (K : Kind) (L : Lawful K) where
   refusal_changes_nothing = record {
     pieces = λ s label x out h.
         piece_refused s label x out
-        (ne_eqb (number_of (piece_answer_of K s label x out)) 0 (λ z. h (ap number_of (piece_answered s label x out) ∙ z)));
+        (not_done (piece_answer_of K s label x out) (λ z. h (ap number_of (piece_answered s label x out) ∙ z)));
     closes = λ s edition tag h g.
         ⊎_elim
         (λ (e : done_of (close_answer_of K s edition tag) ≡ true). absurd (⊎_elim h g (ended_number s edition tag e)))
@@ -175,7 +174,7 @@ module _ (K : Kind) (L : Lawful K) where
   unsound_close_9 : (s : K.Session) (edition : Edition) (tag : List ℕ) → sound_of (K.place s) ≡ false → close_number K s edition tag ≡ 9
   unfolding close_answer_of
   unsound_close_9 s edition tag e =
-      let answer : close_answer_of K s edition tag ≡ NotSound = unsound_close (K.place s) e edition (tag_length K) (length tag) in
+      let answer : close_answer_of K s edition tag ≡ Err NotSound = unsound_close (K.place s) e edition (tag_length K) (length tag) in
       ap number_of ((close_refused s edition tag (ap done_of answer)).0 ∙ answer)
 
   sound_piece_9 : (s : K.Session) (label : Label) (x out : List ℕ) → sound_of (K.place s) ≡ true → piece_number K s label x out ≢ 9
@@ -228,7 +227,7 @@ module _ (K : Kind) (L : Lawful K) where
       to : (sound_of (K.place s) ≡ true) × (edition.job ≢ (K.place s).terms.edition.job) → close_number K s edition tag ≡ 12
       to h =
           let twelve : number_of (close_answer_of K s edition tag) ≡ 12 = by_numbers.1 h in
-          let refused : done_of (close_answer_of K s edition tag) ≡ false = ne_eqb (number_of (close_answer_of K s edition tag)) 0 (λ z. omega arith) in
+          let refused : done_of (close_answer_of K s edition tag) ≡ false = not_done (close_answer_of K s edition tag) (λ z. omega arith) in
           ap number_of (close_refused s edition tag refused).0 ∙ twelve
 
   pub refuses_other_jobs : RefusesOtherJobs K

@@ -8,8 +8,7 @@ use Prim.Native.Nat.{ℕ, ◌+◌, ◌≤◌}
 use native.Mathlib.Omega.{arith}
 use borrow.Author.Tests.{le-leb}
 use lib.ListN.{length}
-use Rattle.answers.specs.declared.Answer.{Answer}
-use Rattle.answers.specs.Answers.{done_of, runs_with}
+use Rattle.answers.specs.Answers.{Answer, done_of, runs_with}
 use Rattle.answers.proofs.Tests.{either, cond_true}
 use Rattle.answers.proofs.Runs.{same_report}
 use Rattle.rules.specs.Limits.{PartLimits}

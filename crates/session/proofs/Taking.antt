@@ -8,7 +8,7 @@ use Prim.Native.Nat.{ℕ, ◌≤◌}
 use native.Mathlib.Omega.{arith}
 use borrow.Author.Tests.{le-leb, leb-true, eq-eqb, eqb-true}
 use lib.ListN.{length}
-use Rattle.answers.specs.declared.Answer.TheVariants.{Done}
+use Rattle.std.specs.Prelude.{Ok}
 use Rattle.answers.specs.Answers.{number_of, done_of}
 use Rattle.answers.proofs.Chain.{zero_done}
 use Rattle.rules.specs.Rules.{longest_note}
@@ -96,7 +96,7 @@ module _ (K : Kind) (L : Lawful K) (key nonce : List ℕ) (T : Terms) (begins : 
           exact_output = exact_from K.way k (length q.bytes) (length q.out) a.fits;
         }
 
-    takes_it : GoesOn K.way T (accepted_from K key nonce T qs) q → piece_answer place q.label (length q.bytes) exact ≡ Done
+    takes_it : GoesOn K.way T (accepted_from K key nonce T qs) q → piece_answer place q.label (length q.bytes) exact ≡ (Ok tt)
     takes_it g =
         accepts place q.label (length q.bytes) exact (stays_sound K L key nonce T begins qs) g.own_edition (le-leb _ _ g.onward) (g.at_count ∙ sym (counted k))
         (rw (counted k, most_is k) g.room) (exact_to K.way k (length q.bytes) (length q.out) g.exact_output)

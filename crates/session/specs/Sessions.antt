@@ -1,12 +1,11 @@
 -- What each call on a session gives, on all inputs, over the session's kind.
 -- Assumes nothing.
-use Rattle.std.specs.Prelude.{ℕ, ◌/◌, Bool, true, cond, List, [], ◌∷◌, leb, length, replicate}
+use Rattle.std.specs.Prelude.{ℕ, ◌/◌, Bool, true, cond, List, [], ◌∷◌, leb, length, replicate, Ok}
 use Rattle.norx.specs.Norx.{Width, row_bytes, State, row, rows, word_at, row_at, row_of, header_mark, body_mark, trailer_mark, start, tag_of, same}
 use Rattle.norx.specs.Stream.{fed, ended, fed_text, unfed}
 use Rattle.norx.specs.Runs.{sealing_runs}
-use Rattle.answers.specs.declared.Answer.{Answer}
-use Rattle.answers.specs.declared.Answer.TheVariants.{Done, TagDiffers}
-use Rattle.answers.specs.Answers.{done_of, need_of, runs_with}
+use Rattle.answers.specs.declared.Refusal.TheVariants.{TagDiffers}
+use Rattle.answers.specs.Answers.{Answer, done_of, need_of, runs_with}
 use Rattle.rules.specs.Runs.{runs_within}
 use Rattle.places.specs.declared.terms.Edition.{Edition}
 use Rattle.places.specs.declared.terms.Terms.{Terms}
@@ -96,8 +95,8 @@ exact_of checking part n out = true
 
 -- what the close answers by the tag that it is given: sealing writes its own, checking compares
 abbrev pub verdict_of : Way → List ℕ → List ℕ → Answer
-verdict_of sealing given own = Done
-verdict_of checking given own = need_of (same given own) TagDiffers Done
+verdict_of sealing given own = Ok tt
+verdict_of checking given own = need_of (same given own) TagDiffers (Ok tt)
 
 -- ---- The calls
 

@@ -7,7 +7,7 @@ ghost use Rattle.session.specs.Sessions.{checking, flat_of, taken_at, closed_of,
 ghost use Rattle.session32.specs.Kinds.{checking32, checking_place, checking_made, checking_close};
 
 use super::parts::{flat, fresh_state, own_tag, readied, rows, runs_of};
-use answers::{Answer, done, need, reported};
+use answers::{Refusal, need, reported};
 use blocks32::ends::row;
 use places::terms::{Edition, Terms};
 use places::{
@@ -34,14 +34,14 @@ pub struct Checking {
 // What a start or a piece answers, and the session to go on with.
 #[derive(Clone, Copy)]
 pub struct CheckingStep {
-    pub answer: Answer,
+    pub answer: Result<(), Refusal>,
     pub session: Checking,
 }
 
 // What a close answers, how many times P ran in the whole sealing, and the session to go on with.
 #[derive(Clone, Copy)]
 pub struct CheckingClose {
-    pub answer: Answer,
+    pub answer: Result<(), Refusal>,
     pub runs: u32,
     pub session: Checking,
 }
@@ -66,19 +66,11 @@ impl Checking {
         ensures { result ≡ start_of checking32 key.now nonce.now terms }
     {
         let answer = start_answer(ROW, terms, key.len(), nonce.len());
-        if done(answer) {
-            let fresh = Checking::fresh(key, nonce, terms);
-            CheckingStep {
-                answer,
-                session: fresh,
-            }
-        } else {
-            let none = Checking::closed();
-            CheckingStep {
-                answer,
-                session: none,
-            }
-        }
+        let session = match answer {
+            Ok(()) => Checking::fresh(key, nonce, terms),
+            Err(_) => Checking::closed(),
+        };
+        CheckingStep { answer, session }
     }
 
     // Takes a piece in, or refuses it and changes nothing; a body piece is ciphertext.
@@ -91,21 +83,16 @@ impl Checking {
         // A check has no output that could have a wrong length.
         let exact = true;
         let answer = piece_answer(p, label, n, exact);
-        if done(answer) {
-            let words = self.words;
-            let key = self.key;
-            let before = rows(words);
-            let s = taken_at(before, p, part, bytes);
-            let next = Checking::made(after(p, part, n), s, key);
-            CheckingStep {
-                answer,
-                session: next,
-            }
-        } else {
-            CheckingStep {
+        if answer.is_err() {
+            return CheckingStep {
                 answer,
                 session: self,
-            }
+            };
+        }
+        let s = taken_at(rows(self.words), p, part, bytes);
+        CheckingStep {
+            answer,
+            session: Checking::made(after(p, part, n), s, self.key),
         }
     }
 
@@ -114,13 +101,10 @@ impl Checking {
         ensures { result ≡ checking_close (close_of checking32 self edition tag.now) (close_runs checking32 self edition tag.now) }
     {
         let n = runs_of(self.place());
-        let step = self.closing(edition, tag);
-        let answer = step.answer;
-        let session = step.session;
-        let report = reported(answer, n);
+        let CheckingStep { answer, session } = self.closing(edition, tag);
         CheckingClose {
             answer,
-            runs: report.runs,
+            runs: reported(answer, n).runs,
             session,
         }
     }
@@ -131,21 +115,16 @@ impl Checking {
     {
         let p = self.place();
         let answer = close_answer(p, edition, TAG, tag.len());
-        if done(answer) {
-            let words = self.words;
-            let key = self.key;
-            let own = own_tag(rows(words), p, key);
-            let verdict = need(same(tag, &own), Answer::TagDiffers, Answer::Done);
-            let closed = Checking::closed();
-            CheckingStep {
-                answer: verdict,
-                session: closed,
-            }
-        } else {
-            CheckingStep {
+        if answer.is_err() {
+            return CheckingStep {
                 answer,
                 session: self,
-            }
+            };
+        }
+        let own = own_tag(rows(self.words), p, self.key);
+        CheckingStep {
+            answer: need(same(tag, &own), Refusal::TagDiffers),
+            session: Checking::closed(),
         }
     }
 
@@ -160,14 +139,12 @@ impl Checking {
     fn place(self) -> Place
         ensures { result ≡ checking_place self }
     {
-        let standing = self.standing;
-        let terms = self.terms;
         Place {
-            standing,
+            standing: self.standing,
             note: self.note,
             body: self.body,
             trailer: self.trailer,
-            terms,
+            terms: self.terms,
         }
     }
 
@@ -175,17 +152,14 @@ impl Checking {
     fn made(p: Place, s: State, key: Row) -> Checking
         ensures { result ≡ checking_made p (flat_of s) key }
     {
-        let standing = p.standing;
-        let terms = p.terms;
-        let words = flat(s);
         Checking {
-            words,
+            words: flat(s),
             key,
             note: p.note,
             body: p.body,
             trailer: p.trailer,
-            terms,
-            standing,
+            terms: p.terms,
+            standing: p.standing,
         }
     }
 

@@ -7,7 +7,7 @@ ghost use Rattle.session.specs.Sessions.{sealing, flat_of, taken_at, written_at,
 ghost use Rattle.session32.specs.Kinds.{sealing32, sealing_place, sealing_made, sealing_close};
 
 use super::parts::{flat, fresh_state, own_tag, readied, rows, runs_of};
-use answers::{Answer, done, reported};
+use answers::{Refusal, reported};
 use blocks32::ends::row;
 use places::terms::{Edition, Terms};
 use places::{
@@ -33,14 +33,14 @@ pub struct Sealing {
 // What a start or a piece answers, and the session to go on with.
 #[derive(Clone, Copy)]
 pub struct SealingStep {
-    pub answer: Answer,
+    pub answer: Result<(), Refusal>,
     pub session: Sealing,
 }
 
 // What a close answers, how many times P ran in the whole sealing, and the session to go on with.
 #[derive(Clone, Copy)]
 pub struct SealingClose {
-    pub answer: Answer,
+    pub answer: Result<(), Refusal>,
     pub runs: u32,
     pub session: Sealing,
 }
@@ -66,19 +66,11 @@ impl Sealing {
         ensures { result ≡ start_of sealing32 key.now nonce.now terms }
     {
         let answer = start_answer(ROW, terms, key.len(), nonce.len());
-        if done(answer) {
-            let fresh = Sealing::fresh(key, nonce, terms);
-            SealingStep {
-                answer,
-                session: fresh,
-            }
-        } else {
-            let none = Sealing::closed();
-            SealingStep {
-                answer,
-                session: none,
-            }
-        }
+        let session = match answer {
+            Ok(()) => Sealing::fresh(key, nonce, terms),
+            Err(_) => Sealing::closed(),
+        };
+        SealingStep { answer, session }
     }
 
     // Takes a piece in, or refuses it and changes nothing. The output of a body piece is as long as the piece, and takes its ciphertext; that of any other piece has no bytes.
@@ -90,21 +82,16 @@ impl Sealing {
         let part = label.part;
         let n = bytes.len();
         let answer = piece_answer(p, label, n, exact(part, n, out.len()));
-        if done(answer) {
-            let words = self.words;
-            let key = self.key;
-            let before = rows(words);
-            let s = taken_at(before, p, part, bytes, out);
-            let next = Sealing::made(after(p, part, n), s, key);
-            SealingStep {
-                answer,
-                session: next,
-            }
-        } else {
-            SealingStep {
+        if answer.is_err() {
+            return SealingStep {
                 answer,
                 session: self,
-            }
+            };
+        }
+        let s = taken_at(rows(self.words), p, part, bytes, out);
+        SealingStep {
+            answer,
+            session: Sealing::made(after(p, part, n), s, self.key),
         }
     }
 
@@ -114,13 +101,10 @@ impl Sealing {
         ensures tag { tag.new ≡ close_tag sealing32 self edition tag.old }
     {
         let n = runs_of(self.place());
-        let step = self.closing(edition, tag);
-        let answer = step.answer;
-        let session = step.session;
-        let report = reported(answer, n);
+        let SealingStep { answer, session } = self.closing(edition, tag);
         SealingClose {
             answer,
-            runs: report.runs,
+            runs: reported(answer, n).runs,
             session,
         }
     }
@@ -132,21 +116,17 @@ impl Sealing {
     {
         let p = self.place();
         let answer = close_answer(p, edition, TAG, tag.len());
-        if done(answer) {
-            let words = self.words;
-            let key = self.key;
-            let own = own_tag(rows(words), p, key);
-            texts::copy(&own, tag);
-            let closed = Sealing::closed();
-            SealingStep {
-                answer: Answer::Done,
-                session: closed,
-            }
-        } else {
-            SealingStep {
+        if answer.is_err() {
+            return SealingStep {
                 answer,
                 session: self,
-            }
+            };
+        }
+        let own = own_tag(rows(self.words), p, self.key);
+        texts::copy(&own, tag);
+        SealingStep {
+            answer: Ok(()),
+            session: Sealing::closed(),
         }
     }
 
@@ -161,14 +141,12 @@ impl Sealing {
     fn place(self) -> Place
         ensures { result ≡ sealing_place self }
     {
-        let standing = self.standing;
-        let terms = self.terms;
         Place {
-            standing,
+            standing: self.standing,
             note: self.note,
             body: self.body,
             trailer: self.trailer,
-            terms,
+            terms: self.terms,
         }
     }
 
@@ -176,17 +154,14 @@ impl Sealing {
     fn made(p: Place, s: State, key: Row) -> Sealing
         ensures { result ≡ sealing_made p (flat_of s) key }
     {
-        let standing = p.standing;
-        let terms = p.terms;
-        let words = flat(s);
         Sealing {
-            words,
+            words: flat(s),
             key,
             note: p.note,
             body: p.body,
             trailer: p.trailer,
-            terms,
-            standing,
+            terms: p.terms,
+            standing: p.standing,
         }
     }
 

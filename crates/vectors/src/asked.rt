@@ -1,9 +1,9 @@
 // A line read as a call: its name, and the words behind it by their kinds.
 use crate::fault::Fault;
 use crate::names::{Call, Kind, part_number, standing_number};
-use decimal::{Number, read_number};
+use decimal::read_number;
 use dispatch::Words;
-use spelled::{Spelled, read_bytes};
+use spelled::read_bytes;
 use std::alloc::Global;
 
 // The most words behind a call's name.
@@ -62,18 +62,13 @@ fn said(kind: Kind, word: &[u8], memory: &mut Vec<u8>) -> Result<usize, Fault> {
 
 // A number of at most so much.
 fn number(word: &[u8], most: usize) -> Option<usize> {
-    let Number::Value(n) = read_number(word) else {
-        return None;
-    };
-    Some(n as usize).filter(|n| *n <= most)
+    read_number(word).map(|n| n as usize).filter(|n| *n <= most)
 }
 
 // Lays the bytes of a word behind those of the words before it.
 fn lay(word: &[u8], memory: &mut Vec<u8>) -> Result<usize, Fault> {
     let mut bytes = [0; BYTES_MOST];
-    let Spelled::Length(n) = read_bytes(word, &mut bytes) else {
-        return Err(Fault::NoCall);
-    };
+    let n = read_bytes(word, &mut bytes).ok_or(Fault::NoCall)?;
     memory.extend_from_slice(&bytes[..n])?;
     Ok(memory.len())
 }

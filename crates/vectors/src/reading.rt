@@ -2,7 +2,7 @@
 use crate::asked::Asked;
 use crate::tell;
 use fields::field_from;
-use lists::{Job, read_list};
+use lists::read_list;
 use std::io;
 
 // TEXT: what it says as a list, or its first bad line.
@@ -10,13 +10,11 @@ pub(crate) fn list(rt: &impl Print, asked: &Asked, loud: bool) -> io::Result<()>
     match read_list(&asked.memory) {
         Ok(_) if !loud => rt.print(0),
         Err(_) if !loud => rt.print("bad"),
-        Ok(Job {
-            job,
-            revision,
-            segments,
-            body,
-        }) => print!(rt; "0 {job} {revision} {segments} {body}"),
-        Err(bad) => print!(rt; "bad {bad.line}"),
+        Ok(says) => print!(rt;
+            "0 {} {} {} {}",
+            says.job, says.revision, says.segments, says.body
+        ),
+        Err(bad) => print!(rt; "bad {}", bad.line),
     }
 }
 

@@ -1,6 +1,6 @@
 -- `dispatch::kept::call`: by the number of the call.
 use mathlib.Core.Path.{sym, ap, ◌∙◌}
-use Rattle.answers.specs.declared.Answer.{Answer}
+use Rattle.answers.specs.Answers.{Answer}
 use Rattle.dispatch.specs.Kept.{kept_all, unrun, kept_receiver, kept_session, kept_call, kept_out}
 use Rattle.dispatch.proofs.Number.{at_segment, at_receiver, at_take, at_list, at_session}
 use Rattle.dispatch.proofs.kept.call.Goals as goal

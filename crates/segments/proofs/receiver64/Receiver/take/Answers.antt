@@ -2,8 +2,7 @@
 use mathlib.Core.Path.{sym, ap, ap₂, ◌∙◌}
 use Prim.Native.Nat.{ℕ}
 use Rattle.norx.specs.Norx.{word64}
-use Rattle.answers.specs.declared.Answer.{Answer}
-use Rattle.answers.specs.Answers.{number_of}
+use Rattle.answers.specs.Answers.{Answer, number_of}
 use Rattle.answers.proofs.Chain.{zero_done}
 use Rattle.cutting.specs.declared.Waiting.{Waiting}
 use Rattle.cutting.specs.Cutting.{waiting_next}
@@ -13,29 +12,29 @@ use Rattle.segments.specs.Structs.{seen64, made64}
 use Rattle.segments.proofs.Checks.{take_below}
 use Rattle.segments.proofs.receiver64.Receiver.take.Goals as goal
 
-pub next-waiting-requires : goal.next-waiting-requires
-next-waiting-requires c =
+pub next-requires : goal.next-requires
+next-requires c =
     let x = c.args in
     let r = x.self in
     λ zero.
     take_below word64 r.key r.nonce r.terms x.note.now r.waiting x.last x.sealed.now x.out.now
     (zero_done (take_answer word64 r.key r.nonce r.terms x.note.now r.waiting x.last x.sealed.now x.out.now)
-    (sym (ap number_of c.open-outcome.ensures.answer) ∙ zero))
+    (sym (ap number_of c.open-answer.ensures.answer) ∙ zero))
 
 pub returns : goal.returns
 unfolding after_taking
 returns c =
     let x = c.args in
     let r = x.self in
-    let is = c.open-outcome.ensures.answer in
-    let runs = c.open-outcome.ensures.runs in
-    let ran = c.open-outcome.result.runs in record {
+    let is = c.open-answer.ensures.answer in
+    let runs = c.open-answer.ensures.runs in
+    let ran = c.open-answer.result.runs in record {
       step = ap₂ (λ (a : Answer) (W : Waiting). record { answer = a; runs = ran; receiver = record { key = r.key; nonce = r.nonce; terms = r.terms; waiting = W } }) is
-          (c.next-waiting.ensures ∙ ap (λ (a : Answer). waiting_next r.waiting a x.last) is)
+          (c.next.ensures ∙ ap (λ (a : Answer). waiting_next r.waiting a x.last) is)
           ∙ ap (λ (n : ℕ). record {
             answer = take_answer word64 r.key r.nonce r.terms x.note.now r.waiting x.last x.sealed.now x.out.now;
             runs = n;
             receiver = made64 (after_taking word64 (seen64 r) x.note.now x.last x.sealed.now x.out.now);
           }) runs;
-      output = c.open-outcome.ensures.output;
+      output = c.open-answer.ensures.output;
     }

@@ -11,7 +11,7 @@ use Rattle.session32.proofs.check.Checking.close.Goals as goal
 pub returns : goal.returns
 returns c =
     let x = c.args in
-    let step = c.closing-step.ensures in
+    let step = c.closing-answer.ensures in
     ap₂ (λ (t : CheckingStep) (n : ℕ). checking_close t n) step
     (close_reports checking32 lawful_checking32 x.self x.edition x.tag.now (ap (λ (t : CheckingStep). t.answer) step)
-    c.place.ensures c.runs_of-n.ensures (ap (λ (o : Outcome). o.runs) c.reported-report.ensures))
+    c.place.ensures c.runs_of-n.ensures (ap (λ (o : Outcome). o.runs) c.reported.ensures))

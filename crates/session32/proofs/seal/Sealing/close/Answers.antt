@@ -11,9 +11,9 @@ use Rattle.session32.proofs.seal.Sealing.close.Goals as goal
 pub returns : goal.returns
 returns c =
     let x = c.args in
-    let step = c.closing-step.ensures.step in record {
+    let step = c.closing-answer.ensures.step in record {
       step = ap₂ (λ (t : SealingStep) (n : ℕ). sealing_close t n) step
           (close_reports sealing32 lawful_sealing32 x.self x.edition x.tag.now (ap (λ (t : SealingStep). t.answer) step)
-          c.place.ensures c.runs_of-n.ensures (ap (λ (o : Outcome). o.runs) c.reported-report.ensures));
-      tag = c.closing-step.ensures.tag;
+          c.place.ensures c.runs_of-n.ensures (ap (λ (o : Outcome). o.runs) c.reported.ensures));
+      tag = c.closing-answer.ensures.tag;
     }

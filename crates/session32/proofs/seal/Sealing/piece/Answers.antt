@@ -1,5 +1,6 @@
 -- `session32::seal::Sealing::piece`: taken in where the answer is 0, and else nothing changed.
 use Rattle.session32.specs.Kinds.{sealing32}
+use Rattle.answers.proofs.Chain.{found_done, found_refused}
 use Rattle.session.proofs.Steps.{PieceFound, PieceMade, piece_accepted, piece_taken, piece_wrote, piece_kept, piece_left}
 use Rattle.session32.proofs.seal.Sealing.piece.Goals as goal
 
@@ -10,48 +11,42 @@ taken_at-s-requires c =
       place = _;
       exact = _;
       answer = _;
-      done = _;
       place_is = c.place-p.ensures;
       exact_is = c.exact.ensures;
       answer_is = c.piece_answer-answer.ensures;
-      done_is = c.done.ensures;
     } in
-    piece_accepted sealing32 x.self x.label x.bytes.now x.out.now found c.if-done.true
+    piece_accepted sealing32 x.self x.label x.bytes.now x.out.now found (found_done c.piece_answer-answer.result c.is_err.ensures.value c.if-is_err.false)
 
-pub returns-then-done : goal.returns-then-done
-returns-then-done c =
+pub returns : goal.returns
+returns c =
     let x = c.args in
     let found : PieceFound sealing32 x.self x.label x.bytes.now x.out.now = record {
       place = _;
       exact = _;
       answer = _;
-      done = _;
       place_is = c.place-p.ensures;
       exact_is = c.exact.ensures;
       answer_is = c.piece_answer-answer.ensures;
-      done_is = c.done.ensures;
     } in
     let made : PieceMade sealing32 x.self x.label x.bytes.now c.place-p.result = record {
       rows = _;
       state = _;
       place = _;
       session = _;
-      rows_is = c.rows-before.ensures;
+      rows_is = c.rows.ensures;
       state_is = c.taken_at-s.ensures.state;
       place_is = c.after.ensures;
-      session_is = c.made-next.ensures;
-    } in record { step = piece_taken sealing32 x.self x.label x.bytes.now x.out.now found c.if-done.true made; output = piece_wrote sealing32 x.self x.label x.bytes.now x.out.now found c.if-done.true _ _ c.rows-before.ensures c.taken_at-s.ensures.output }
+      session_is = c.made.ensures;
+    } in record { step = piece_taken sealing32 x.self x.label x.bytes.now x.out.now found (found_done c.piece_answer-answer.result c.is_err.ensures.value c.if-is_err.false) made; output = piece_wrote sealing32 x.self x.label x.bytes.now x.out.now found (found_done c.piece_answer-answer.result c.is_err.ensures.value c.if-is_err.false) _ _ c.rows.ensures c.taken_at-s.ensures.output }
 
-pub returns-else-done : goal.returns-else-done
-returns-else-done c =
+pub returns-then-is_err : goal.returns-then-is_err
+returns-then-is_err c =
     let x = c.args in
     let found : PieceFound sealing32 x.self x.label x.bytes.now x.out.now = record {
       place = _;
       exact = _;
       answer = _;
-      done = _;
       place_is = c.place-p.ensures;
       exact_is = c.exact.ensures;
       answer_is = c.piece_answer-answer.ensures;
-      done_is = c.done.ensures;
-    } in record { step = piece_kept sealing32 x.self x.label x.bytes.now x.out.now found c.if-done.false; output = piece_left sealing32 x.self x.label x.bytes.now x.out.now found c.if-done.false }
+    } in record { step = piece_kept sealing32 x.self x.label x.bytes.now x.out.now found (found_refused c.piece_answer-answer.result c.is_err.ensures.value c.if-is_err.true); output = piece_left sealing32 x.self x.label x.bytes.now x.out.now found (found_refused c.piece_answer-answer.result c.is_err.ensures.value c.if-is_err.true) }

@@ -2,6 +2,7 @@
 use mathlib.Core.Path.{refl}
 use mathlib.Core.List.{[]}
 use Rattle.session64.specs.Kinds.{checking64}
+use Rattle.answers.proofs.Chain.{found_done, found_refused}
 use Rattle.session.proofs.Steps.{PieceFound, PieceMade, piece_accepted, piece_taken, piece_kept}
 use Rattle.session64.proofs.check.Checking.piece.Goals as goal
 
@@ -12,50 +13,44 @@ taken_at-s-requires c =
       place = _;
       exact = _;
       answer = _;
-      done = _;
       place_is = c.place-p.ensures;
       exact_is = refl;
       answer_is = c.piece_answer-answer.ensures;
-      done_is = c.done.ensures;
     } in
-    piece_accepted checking64 x.self x.label x.bytes.now [] found c.if-done.true
+    piece_accepted checking64 x.self x.label x.bytes.now [] found (found_done c.piece_answer-answer.result c.is_err.ensures.value c.if-is_err.false)
 
-pub returns-then-done : goal.returns-then-done
-returns-then-done c =
+pub returns : goal.returns
+returns c =
     let x = c.args in
     let found : PieceFound checking64 x.self x.label x.bytes.now [] = record {
       place = _;
       exact = _;
       answer = _;
-      done = _;
       place_is = c.place-p.ensures;
       exact_is = refl;
       answer_is = c.piece_answer-answer.ensures;
-      done_is = c.done.ensures;
     } in
     let made : PieceMade checking64 x.self x.label x.bytes.now c.place-p.result = record {
       rows = _;
       state = _;
       place = _;
       session = _;
-      rows_is = c.rows-before.ensures;
+      rows_is = c.rows.ensures;
       state_is = c.taken_at-s.ensures;
       place_is = c.after.ensures;
-      session_is = c.made-next.ensures;
+      session_is = c.made.ensures;
     } in
-    piece_taken checking64 x.self x.label x.bytes.now [] found c.if-done.true made
+    piece_taken checking64 x.self x.label x.bytes.now [] found (found_done c.piece_answer-answer.result c.is_err.ensures.value c.if-is_err.false) made
 
-pub returns-else-done : goal.returns-else-done
-returns-else-done c =
+pub returns-then-is_err : goal.returns-then-is_err
+returns-then-is_err c =
     let x = c.args in
     let found : PieceFound checking64 x.self x.label x.bytes.now [] = record {
       place = _;
       exact = _;
       answer = _;
-      done = _;
       place_is = c.place-p.ensures;
       exact_is = refl;
       answer_is = c.piece_answer-answer.ensures;
-      done_is = c.done.ensures;
     } in
-    piece_kept checking64 x.self x.label x.bytes.now [] found c.if-done.false
+    piece_kept checking64 x.self x.label x.bytes.now [] found (found_refused c.piece_answer-answer.result c.is_err.ensures.value c.if-is_err.true)

@@ -1,8 +1,0 @@
--- `places::unreached`, part by part.
-use Rattle.places.proofs.unreached.Goals as goal
-
-pub returns-in-Note : goal.returns-in-Note
-returns-in-Note c = rw c.in-Note.is
-
-pub returns-in-Body : goal.returns-in-Body
-returns-in-Body c = rw c.in-Body.is
