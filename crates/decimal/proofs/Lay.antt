@@ -70,12 +70,6 @@ pub record Left (n v i : ℕ) (out : List ℕ) : Type 0 where
   pub some : 1 ≤ i → (length (num_text v) ≡ i) × (num_text v ++ drop i out ≡ num_text n)
   pub none : i ≡ 0 → out ≡ num_text n
 
-pub all_left : (n : ℕ) (out : List ℕ) → length out ≡ length (num_text n) → Left n n (length out) out
-all_left n out e = record {
-  some = λ h. (sym e, ap (λ (l : List ℕ). num_text n ++ l) (drop_of_length-le out {i = length out} (omega arith)) ∙ append-nil (num_text n));
-  none = λ z. absurd (omega (arith, length_pos n));
-}
-
 pub one_less : (n v i : ℕ) (out : List ℕ) → Left n v i out → 0 < i → i ≤ length out → Left n (v / 10) (i - 1) (set out (i - 1) (digit (v % 10)))
 one_less n v i out left h within =
     let was = left.some h in

@@ -1,6 +1,6 @@
 -- Hexadecimal digits, and texts of them.
 -- Assumes nothing.
-use mathlib.Core.Path.{◌≡◌, refl, sym, ap, ap₂, subst, ◌∙◌}
+use mathlib.Core.Path.{◌≡◌, refl, sym, ap, ap₂, ◌∙◌}
 use mathlib.Core.Logic.{◌⊎◌, ⊎_elim}
 use mathlib.Core.List.{List, [], ◌∷◌, ◌++◌, head-eq_of_cons-eq, tail-eq_of_cons-eq, append_assoc}
 use Prim.Native.Nat.{ℕ, zero, suc, ◌+◌, ◌*◌, ◌/◌, ◌%◌, ◌<◌, ◌≤◌}
@@ -8,10 +8,9 @@ use native.Mathlib.Omega.{arith}
 use lib.ListN.{length, get_or, set, take}
 use lib.Seq.{take-suc, take-suc-set}
 use borrow.Author.Tests.{lt-ltb, le-ltb}
-use Rattle.std.specs.Prelude.{Option, Some, None, IsSome}
 use Rattle.std.proofs.lemmas.Bool.{cases_lt}
 use Rattle.norx.specs.Texts.{Bytes}
-use Rattle.spelled.specs.Spelled.{hex_digit, hex_text, IsDigit, PairIs, AllDigits}
+use Rattle.spelled.specs.Spelled.{hex_digit, hex_text, IsDigit, AllDigits}
 
 -- ---- One digit
 
@@ -59,22 +58,13 @@ hex_inj (a ∷ x) (b ∷ y) e =
     let ab : a ≡ b = omega arith in
     ap₂ (λ (c : ℕ) (l : List ℕ). c ∷ l) ab (hex_inj x y (tail-eq_of_cons-eq (tail-eq_of_cons-eq e)))
 
--- the text of bytes is digits, and what has such a text is bytes
+-- the text of bytes is digits
 pub hex_digits : (l : List ℕ) → Bytes l → AllDigits (hex_text l)
 unfolding hex_text
 hex_digits [] h i lt = absurd (omega arith)
 hex_digits (b ∷ l) h zero lt = (b / 16, omega (arith, h 0), refl)
 hex_digits (b ∷ l) h (suc zero) lt = (b % 16, omega arith, refl)
 hex_digits (b ∷ l) h (suc (suc i)) lt = hex_digits l (λ k. h (suc k)) i (omega arith)
-
-pub digits_bytes : (l : List ℕ) → AllDigits (hex_text l) → Bytes l
-unfolding hex_text
-digits_bytes [] h i = omega arith
-digits_bytes (b ∷ l) h zero =
-    let d = h 0 (omega arith) in
-    let e : b / 16 ≡ d.0 = digit_inj (b / 16) d.0 d.2 in
-    omega (arith, d.1)
-digits_bytes (b ∷ l) h (suc i) = digits_bytes l (λ k lt. h (suc (suc k)) (omega arith)) i
 
 -- ---- One byte more
 
@@ -92,18 +82,6 @@ hex_pair a b ha hb =
     let q : (a * 16 + b) / 16 ≡ a = omega arith in
     let r : (a * 16 + b) % 16 ≡ b = omega arith in
     ap₂ (λ (x y : ℕ). hex_digit x ∷ hex_digit y ∷ []) q r
-
--- two digits are a byte's
-pub pair_some : (high low : ℕ) (r : Option ℕ) → IsDigit high → IsDigit low → PairIs high low r → IsSome r
-pair_some high low (Some b) h l p = refl
-pair_some high low None h l none = absurd (none h l)
-
-pub digits_more : (w : List ℕ) (i : ℕ) → ((k : ℕ) → k < i → IsDigit (get_or w k 0)) → IsDigit (get_or w i 0) → (k : ℕ) → k < i + 1 → IsDigit (get_or w k 0)
-digits_more w i before is k h =
-    ⊎_elim (before k)
-    (λ g.
-    let e : i ≡ k = omega arith in
-    subst (λ (j : ℕ). IsDigit (get_or w j 0)) e is) (cases_lt k i)
 
 -- a byte laid behind those whose text the first digits are
 pub laid_next : (w out : List ℕ) (i b : ℕ) → 2 * i + 1 < length w → i < length out → hex_text (b ∷ []) ≡ get_or w (2 * i) 0 ∷ get_or w (2 * i + 1) 0 ∷ []

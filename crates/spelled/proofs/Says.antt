@@ -1,4 +1,4 @@
--- A test of two numbers that says whether something holds.
+-- Whether each byte of a word is a digit: what was read of each, and a test that says so.
 -- Assumes nothing.
 use mathlib.Core.Path.{◌≡◌}
 use mathlib.Core.Bool.{Bool, true, false, true≢false, false≢true}
@@ -29,7 +29,3 @@ says_all w false (k, h, none) = λ all. none 0 (all k h)
 pub says_no : (P : Type 0) (t : Bool) → t ≡ false → Says P t → P → ⊥
 says_no P true e said = absurd (true≢false e)
 says_no P false e said = said
-
-pub says_yes : (P : Type 0) (t : Bool) → t ≡ true → Says P t → P
-says_yes P true e said = said
-says_yes P false e said = absurd (false≢true e)

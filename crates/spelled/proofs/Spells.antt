@@ -5,14 +5,13 @@ use mathlib.Core.Logic.{inl, inr, ⊎_elim}
 use mathlib.Core.List.{List, [], ◌∷◌, ◌++◌}
 use Prim.Native.Nat.{ℕ, zero, suc, ◌*◌, ◌<◌, ◌≤◌}
 use native.Mathlib.Omega.{arith}
-use lib.ListN.{length, get_or, take, drop, replicate, length-replicate, take-append-drop}
-use lib.Seq.{length-take-le}
+use lib.ListN.{length, get_or, take, drop, replicate, length-replicate}
 use Rattle.std.specs.Prelude.{Option, Some, None}
 use Rattle.norx.specs.Texts.{Bytes}
 use Rattle.decimal.specs.Decimal.{num_text}
 use Rattle.decimal.proofs.Digits.{length_pos, num_inj}
 use Rattle.spelled.specs.Spelled.{hex_text, AsPairs, AsTimes, Spells, ReadIs, IsDigit, AllDigits, Starred}
-use Rattle.spelled.proofs.Hex.{no_digit, length_hex, hex_inj, hex_digits, digits_bytes}
+use Rattle.spelled.proofs.Hex.{no_digit, length_hex, hex_inj, hex_digits}
 
 -- ---- Pairs
 
@@ -23,13 +22,6 @@ pub pairs_digits : (w l : List ℕ) → AsPairs w l → AllDigits w
 pairs_digits w l p = subst AllDigits (sym p.2) (hex_digits l p.0)
 
 -- ---- So many times
-
--- a word of three bytes and more
-cut_three : (w : List ℕ) → 3 < length w → w ≡ get_or w 0 0 ∷ get_or w 1 0 ∷ get_or w 2 0 ∷ drop 3 w
-cut_three [] h = absurd (omega arith)
-cut_three (a ∷ []) h = absurd (omega arith)
-cut_three (a ∷ b ∷ []) h = absurd (omega arith)
-cut_three (a ∷ b ∷ c ∷ w) h = refl
 
 pub first_two : (w : List ℕ) → 2 ≤ length w → AllDigits (take 2 w) → IsDigit (get_or w 0 0) × IsDigit (get_or w 1 0)
 first_two [] h all = absurd (omega arith)
@@ -55,17 +47,6 @@ times_number w l (b, n, hb, hn, e, el) = ap (drop 3) e ∙ ap num_text (sym (len
 
 pub times_some : (w l : List ℕ) → AsTimes w l → 1 ≤ length l
 times_some w l (b, n, hb, hn, e, el) = omega (arith, ap length el, length-replicate n b)
-
--- the two digits, the star and the number, put together
-pub times_is : (w : List ℕ) (b n : ℕ) → Starred w → b < 256 → hex_text (b ∷ []) ≡ get_or w 0 0 ∷ get_or w 1 0 ∷ [] → 1 ≤ n → drop 3 w ≡ num_text n → AsTimes w (replicate n b)
-times_is w b n h hb pair hn e = (
-  b,
-  n,
-  hb,
-  hn,
-  cut_three w h.0 ∙ (λ i. get_or w 0 0 ∷ get_or w 1 0 ∷ h.1 i ∷ e i) ∙ ap (λ (t : List ℕ). t ++ (42 ∷ num_text n)) (sym pair),
-  refl,
-)
 
 -- ---- One form for each word
 
@@ -111,22 +92,3 @@ read_unique w o a b (Some m) (Some n) (x, p, hm, rm, ea) (y, q, hn, rn, eb) =
 read_unique w o a b (Some m) None (x, p, hm, rm, ea) (none, same) = absurd (none x p (omega arith))
 read_unique w o a b None (Some n) (none, same) (y, q, hn, rn, eb) = absurd (none y q (omega arith))
 read_unique w o a b None None (none, same) (none2, same2) = (refl, same ∙ sym same2)
-
--- the bytes whose text the word is, laid to the front
-pub pairs_laid : (w o a : List ℕ) (n : ℕ) → AllDigits w → 1 ≤ n → n ≤ length o → length a ≡ length o → hex_text (take n a) ≡ w → drop n a ≡ drop n o
-    → ReadIs (AsPairs w) o a (Some n)
-pairs_laid w o a n digits some room same text rest =
-    let k : length (take n a) ≡ n = length-take-le n a (omega arith) in (
-      take n a,
-      (digits_bytes (take n a) (subst AllDigits (sym text) digits), omega arith, sym text),
-      k,
-      room,
-      sym (take-append-drop n a) ∙ ap (λ (t : List ℕ). take n a ++ t) rest,
-    )
-
--- one byte laid over the first n
-pub times_laid : (w o front : List ℕ) (b n : ℕ) → AsTimes w (replicate n b) → n ≤ length o → front ≡ replicate (length (take n o)) b
-    → ReadIs (AsTimes w) o (front ++ drop n o) (Some n)
-times_laid w o front b n is room e =
-    let k : front ≡ replicate n b = e ∙ ap (λ (m : ℕ). replicate m b) (length-take-le n o room) in
-    (replicate n b, is, length-replicate n b, room, ap (λ (t : List ℕ). t ++ drop n o) k)

@@ -20,9 +20,6 @@ loop-i-init c =
 pub returns-then-not-is_ascii_digit : goal.returns-then-not-is_ascii_digit
 returns-then-not-is_ascii_digit c = stops _ _ _ c.loop-i.i c.loop-i.invariant c.loop-i-test.true (other_byte _ c.if-not-is_ascii_digit.ensures.cases)
 
-pub one_more-requires : goal.one_more-requires
-one_more-requires c = let digit = c.if-not-is_ascii_digit.ensures.cases in omega (arith, c.from.ensures)
-
 pub returns-in_err-v-2 : goal.returns-in_err-v-2
 returns-in_err-v-2 c =
     rw c.from_residual-in_err-v-2.ensures (goes_wrong _ _ _ c.loop-i.i c.loop-i.invariant _ c.loop-i-test.true (digit_byte _ _ c.if-not-is_ascii_digit.ensures.cases c.from.ensures) c.in_err-v-2.ensures)

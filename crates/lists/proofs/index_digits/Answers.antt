@@ -15,12 +15,6 @@ overflow_add-digits c =
     let n = c.args.n in
     omega (arith, l.invariant.2, counted_most (suc l.invariant.0) n c.requires, c.requires)
 
-pub overflow_mul-power : goal.overflow_mul-power
-overflow_mul-power c = omega (arith, c.loop-power-test.true, c.requires)
-
-pub loop-power-smaller : goal.loop-power-smaller
-loop-power-smaller c = omega (arith, c.loop-power-test.true, c.loop-power.invariant.3)
-
 pub loop-power-preserved : goal.loop-power-preserved
 loop-power-preserved c =
     let l = c.loop-power in

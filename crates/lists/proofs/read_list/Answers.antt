@@ -19,9 +19,6 @@ returns-then-body-lines c =
     let l = c.loop-at in
     not_full c.args.text.now _ _ _ l.body l.lines l.at l.invariant c.loop-at-test.true c.if-body-lines.true
 
-pub segment_at-requires : goal.segment_at-requires
-segment_at-requires c = let l = c.loop-at in (l.invariant.place, l.invariant.front_within)
-
 pub returns-in_default-segment_at : goal.returns-in_default-segment_at
 returns-in_default-segment_at c =
     let l = c.loop-at in
@@ -29,9 +26,6 @@ returns-in_default-segment_at c =
 
 pub overflow_add-body : goal.overflow_add-body
 overflow_add-body c = let l = c.loop-at in let more = c.in-Some-segment_at.ensures in omega (arith, (last_rule l.lines _ more.0).0, l.invariant.within, l.invariant.few)
-
-pub loop-at-smaller : goal.loop-at-smaller
-loop-at-smaller c = let more = c.in-Some-segment_at.ensures in omega (arith, more.1.forward, c.loop-at-test.true)
 
 pub loop-at-preserved : goal.loop-at-preserved
 loop-at-preserved c = let l = c.loop-at in goes_on c.args.text.now _ _ _ l.body l.lines l.at l.invariant _ _ c.if-body-lines.false c.in-Some-segment_at.ensures

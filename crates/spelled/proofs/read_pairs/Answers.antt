@@ -1,8 +1,8 @@
 -- `spelled::read_pairs`: digits, twice as many as there are bytes.
 use mathlib.Core.Path.{refl}
 use native.Mathlib.Omega.{arith}
-use Rattle.spelled.proofs.Says.{says_no, says_yes}
-use Rattle.spelled.proofs.Spells.{pairs_length, pairs_digits, pairs_laid}
+use Rattle.spelled.proofs.Says.{says_no}
+use Rattle.spelled.proofs.Spells.{pairs_length, pairs_digits}
 use Rattle.spelled.proofs.read_pairs.Goals as goal
 
 pub returns-then-n-eq0 : goal.returns-then-n-eq0
@@ -16,10 +16,3 @@ returns-then-out-n c = let word = c.args.word.now in ((λ l p room. omega (arith
 
 pub returns-then-not-all_digits : goal.returns-then-not-all_digits
 returns-then-not-all_digits c = ((λ l p room. says_no _ c.all_digits.result c.if-not-all_digits.true c.all_digits.ensures (pairs_digits _ l p)), refl)
-
-pub lay-requires : goal.lay-requires
-lay-requires c = (says_yes _ c.all_digits.result c.if-not-all_digits.false c.all_digits.ensures, omega arith, omega arith)
-
-pub returns : goal.returns
-returns c =
-    pairs_laid _ _ _ _ (says_yes _ c.all_digits.result c.if-not-all_digits.false c.all_digits.ensures) (omega arith) (omega arith) c.lay.auto.out c.lay.ensures.bytes c.lay.ensures.rest

@@ -3,7 +3,7 @@ use mathlib.Core.Path.{refl, sym, ◌∙◌}
 use native.Mathlib.Omega.{arith}
 use Rattle.norx.proofs.Slices.{tail}
 use Rattle.decimal.proofs.Digits.{num_inj}
-use Rattle.spelled.proofs.Spells.{first_two, times_digits, times_number, times_some, times_is, times_laid}
+use Rattle.spelled.proofs.Spells.{first_two, times_digits, times_number, times_some}
 use Rattle.spelled.proofs.read_times.Goals as goal
 
 pub returns-in_err-b : goal.returns-in_err-b
@@ -27,10 +27,3 @@ returns-then-out-n c =
     let word = c.args.word.now in
     let number = c.in_ok-n.ensures in
     ((λ l t room. omega (arith, num_inj _ _ (sym number.1 ∙ tail 3 word ∙ times_number word l t))), refl)
-
-pub returns : goal.returns
-returns c =
-    let number = c.in_ok-n.ensures in
-    let byte = c.in_ok-b.ensures in
-    let is = times_is c.args.word.now _ _ c.requires byte.0 byte.1 (omega arith) (sym (tail 3 c.args.word.now) ∙ number.1) in
-    times_laid _ c.args.out.now _ _ _ is (omega arith) (c.fill.ensures.after (λ y e. e))

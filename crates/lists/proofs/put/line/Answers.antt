@@ -10,14 +10,6 @@ use Rattle.fields.specs.Fields.{tab, newline}
 use Rattle.lists.proofs.Writing.{part, then_laid, then_place, three_parts}
 use Rattle.lists.proofs.put.line.Goals as goal
 
-pub text-a-requires : goal.text-a-requires
-text-a-requires c =
-    let x = c.args in
-    let all = ap length (three_parts x.front.now x.index x.body) in
-    let l1 = length-append x.front.now (part x.index tab) in
-    let l2 = length-append (x.front.now ++ part x.index tab) (part x.body newline) in
-    omega (arith, c.requires)
-
 pub part-b-requires : goal.part-b-requires
 part-b-requires c =
     let x = c.args in
