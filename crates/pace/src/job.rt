@@ -73,7 +73,13 @@ pub(crate) fn piece_end(at: usize, n: usize) -> usize
 }
 
 // One call seals the body into sealed, and pieces into out; sealed is what is checked, and one call opens it into out.
-pub(crate) fn run(line: Line, way: Way, body: &[u8], sealed: &mut [u8], out: &mut [u8]) -> Result<(), Refusal> {
+pub(crate) fn run(
+    line: Line,
+    way: Way,
+    body: &[u8],
+    sealed: &mut [u8],
+    out: &mut [u8],
+) -> Result<(), Refusal> {
     match way {
         Way::OneCall => one_call::run(line, body, sealed, out),
         Way::Pieces => in_pieces(line, body, sealed, out),

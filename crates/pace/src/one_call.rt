@@ -6,7 +6,12 @@ use answers::Refusal;
 use places::front::front;
 use rules::{w32, w64};
 
-pub(crate) fn run(line: Line, body: &[u8], sealed: &mut [u8], out: &mut [u8]) -> Result<(), Refusal> {
+pub(crate) fn run(
+    line: Line,
+    body: &[u8],
+    sealed: &mut [u8],
+    out: &mut [u8],
+) -> Result<(), Refusal> {
     let work = line.work;
     match work {
         Work::Seal => seal(line, body, sealed),

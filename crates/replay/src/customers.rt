@@ -77,7 +77,7 @@ pub(crate) fn as_it_was(rt: &impl Print) -> io::Result<bool> {
         rt,
         "\nNow the header is job, revision and note, and the office seals both so:\n",
     )?;
-    Ok(done(answer))
+    Ok(answer.is_ok())
 }
 
 // A session for job 8 is offered job 7 as what it is.
