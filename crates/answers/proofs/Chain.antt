@@ -1,12 +1,13 @@
 -- Chains of refusals: put together link by link, and what is known where one gives no refusal.
 -- Assumes nothing.
 use mathlib.Core.Path.{◌≡◌, refl, sym, ◌∙◌}
-use mathlib.Core.Bool.{Bool, true, false, ◌&&◌, ◌||◌, false≢true}
+use mathlib.Core.Bool.{Bool, true, false, ◌||◌, false≢true}
 use mathlib.Core.Logic.{◌≢◌, ◌⊎◌, inl, inr}
 use Prim.Native.Nat.{ℕ, ◌≤◌}
 use native.Mathlib.Omega.{arith}
 use borrow.Author.Tests.{ne_eqb}
 use lib.Dec.{eqb}
+pub use Rattle.std.proofs.lemmas.Bool.{and_parts as both, and_from as and_true, or_cases as one_of}
 use Rattle.std.specs.Prelude.{Ok, Err, ⊤, is_err}
 use Rattle.std.specs.Result.{result_and}
 use Rattle.answers.specs.declared.Refusal.{Refusal}
@@ -62,18 +63,13 @@ found_refused a e h = go a (sym e ∙ h)
     go (Ok done) h = absurd (false≢true h)
     go (Err refusal) h = refl
 
--- one link of a chain on its two ways: its own refusal is that of the chain, and else the rest of the chain decides
-pub refuses : (ok : Bool) (refusal : Refusal) {r : Refusal} (rest : Answer) → Err r ≡ need_of ok refusal (Ok tt) → Err r ≡ need_of ok refusal rest
-unfolding need_of
-refuses true refusal rest e = cc
-refuses false refusal rest e = e
-
+-- a link that gives no refusal leaves it to the rest of the chain
 pub goes_on : (ok : Bool) (refusal : Refusal) {given rest : Answer} {x : ⊤} → Ok x ≡ need_of ok refusal (Ok tt) → given ≡ rest → given ≡ need_of ok refusal rest
 unfolding need_of
 goes_on true refusal e f = f
 goes_on false refusal e f = cc
 
--- a link that gives no refusal: its test holds, and so does the rest
+-- where a chain gives no refusal the test of its first link holds, and the rest gives none
 pub passed : (ok : Bool) (refusal : Refusal) (rest : Answer) → done_of (need_of ok refusal rest) ≡ true → (ok ≡ true) × (done_of rest ≡ true)
 unfolding need_of
 passed true refusal rest e = (refl, e)
@@ -99,18 +95,6 @@ both_done (Err refusal) rest e = absurd (false≢true e)
 pub and_not : (n : ℕ) (a rest : Answer) → number_of a ≢ n → number_of rest ≢ n → number_of (result_and a rest) ≢ n
 and_not n (Ok done) rest h g = g
 and_not n (Err refusal) rest h g = h
-
-pub both : (a b : Bool) → (a && b) ≡ true → (a ≡ true) × (b ≡ true)
-both true b e = (refl, e)
-both false b e = absurd (false≢true e)
-
-pub and_true : (a b : Bool) → a ≡ true → b ≡ true → (a && b) ≡ true
-and_true true b e f = f
-and_true false b e f = absurd (false≢true e)
-
-pub one_of : (a b : Bool) → (a || b) ≡ true → (a ≡ true) ⊎ (b ≡ true)
-one_of true b e = inl refl
-one_of false b e = inr e
 
 pub or_true : (a b : Bool) → (a ≡ true) ⊎ (b ≡ true) → (a || b) ≡ true
 or_true true b e = refl

@@ -1,21 +1,11 @@
--- A test is true or false, and what a choice by it then is.
+-- A test is true or false, and what a choice by it then is: the library's lemmas under short names, and a choice by two numbers.
 -- Assumes nothing.
-use mathlib.Core.Path.{◌≡◌, refl, ap, ◌∙◌}
-use mathlib.Core.Bool.{Bool, true, false, cond}
-use mathlib.Core.Logic.{◌⊎◌, inl, inr}
+use mathlib.Core.Path.{◌≡◌, ◌∙◌}
+use mathlib.Core.Bool.{cond}
 use Prim.Native.Nat.{ℕ}
 use borrow.Author.Tests.{eq-eqb}
 use lib.Dec.{eqb}
-
-pub either : (b : Bool) → (b ≡ true) ⊎ (b ≡ false)
-either true = inl refl
-either false = inr refl
-
-pub cond_true : {A : Type 0} (b : Bool) (x y : A) → b ≡ true → cond b x y ≡ x
-cond_true b x y h = ap (λ (c : Bool). cond c x y) h
-
-pub cond_false : {A : Type 0} (b : Bool) (x y : A) → b ≡ false → cond b x y ≡ y
-cond_false b x y h = ap (λ (c : Bool). cond c x y) h
+pub use Rattle.std.proofs.lemmas.Bool.{cases_Bool as either, cond-true as cond_true, cond-false as cond_false}
 
 -- a choice by two numbers that are known to be equal
 pub cond_equal : {A : Type 0} {z : A} (x y : A) (m n : ℕ) → m ≡ n → z ≡ cond (eqb m n) x y → z ≡ x

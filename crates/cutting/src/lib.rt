@@ -10,7 +10,7 @@ use rules::{MOST_SEGMENTS, SEGMENT, SEGMENT_NUMBER};
 use words::w64::store;
 
 // Which segment a receiver waits for, and whether it has taken the last one.
-#[derive(Clone, Copy)]
+#[derive(Clone, Copy, Default)]
 pub struct Waiting {
     pub index: u64,
     pub complete: bool,

@@ -1,4 +1,3 @@
-pub mod Room
 pub mod Editions
 pub mod Accepts
 pub mod Unique

@@ -28,14 +28,15 @@ pub struct Label {
 }
 
 // Whether a session takes pieces, and which part they have come to.
-#[derive(Clone, Copy)]
+#[derive(Clone, Copy, Default)]
 pub enum Standing {
+    #[default]
     Closed,
     Open(Part),
 }
 
 // Where a session stands: all of it but its words and its key.
-#[derive(Clone, Copy)]
+#[derive(Clone, Copy, Default)]
 pub struct Place {
     pub standing: Standing,
     pub note: usize,
@@ -48,18 +49,7 @@ pub struct Place {
 pub fn closed_place() -> Place
     ensures { result ≡ closed_place }
 {
-    let edition = Edition {
-        job: 0,
-        revision: 0,
-    };
-    let terms = Terms { rounds: 0, edition };
-    Place {
-        standing: Standing::Closed,
-        note: 0,
-        body: 0,
-        trailer: 0,
-        terms,
-    }
+    Place::default()
 }
 
 // Open in the note, with nothing of it yet.
@@ -68,10 +58,8 @@ pub fn fresh_place(terms: Terms) -> Place
 {
     Place {
         standing: Standing::Open(Part::Note),
-        note: 0,
-        body: 0,
-        trailer: 0,
         terms,
+        ..Place::default()
     }
 }
 

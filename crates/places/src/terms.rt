@@ -6,14 +6,14 @@ use answers::{Refusal, need};
 use rules::rounds_ok;
 
 // Which job, and which revision of it, a session, a piece or a close is of.
-#[derive(Clone, Copy)]
+#[derive(Clone, Copy, Default)]
 pub struct Edition {
     pub job: u64,
     pub revision: u64,
 }
 
 // What a session is begun for.
-#[derive(Clone, Copy)]
+#[derive(Clone, Copy, Default)]
 pub struct Terms {
     pub rounds: u32,
     pub edition: Edition,

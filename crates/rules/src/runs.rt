@@ -9,6 +9,7 @@ use super::calls::within;
 const START_AND_TAG: u32 = 3;
 
 // In a part of n bytes, in blocks of so many as the rate: not at all where it is empty.
+#[tactic(auto, unfolding(norx::specs::Runs::part_runs))]
 fn part_runs(rate: usize, n: usize) -> u32
     requires { (0 < rate) × (n ≤ longest_body) }
     ensures number { result ≡ part_runs rate n }

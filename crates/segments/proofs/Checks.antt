@@ -9,7 +9,6 @@ use borrow.Author.Tests.{ltb-true}
 use lib.Dec.{ltb, leb, eqb}
 use lib.ListN.{length, length-append}
 use Rattle.std.specs.Prelude.{Ok, ⊤}
-use Rattle.answers.specs.declared.Refusal.{Refusal}
 use Rattle.norx.specs.Norx.{Width, row_bytes, tag_bits, bytes_of, sealed}
 use Rattle.norx.specs.Front.{eight_bytes, front_bytes}
 use Rattle.answers.specs.declared.Refusal.TheVariants.{SegmentLength, AfterLast}
@@ -97,20 +96,7 @@ module _ (w : Width) (key nonce : List ℕ) (T : Terms) (note : List ℕ) (i : �
 
 -- ---- opening
 
--- links ahead of a call whose own checks refuse or leave it to the tag
-links_answer : (b c : Bool) (x y : Refusal) (one by_tag : Answer) → done_of (need_of b x (need_of c y one)) ≡ false
-    → need_of b x (need_of c y (cond (done_of one) by_tag one)) ≡ need_of b x (need_of c y one)
-unfolding need_of
-links_answer true true x y one by_tag e = cond_false _ _ _ e
-links_answer true false x y one by_tag e = refl
-links_answer false c x y one by_tag e = refl
-
-links_out : (b c : Bool) (x y : Refusal) (one : Answer) (t o : List ℕ) → done_of (need_of b x (need_of c y one)) ≡ false → cond (b && c) (cond (done_of one) t o) o ≡ o
-unfolding need_of
-links_out true true x y one t o e = cond_false _ _ _ e
-links_out true false x y one t o e = refl
-links_out false c x y one t o e = refl
-
+-- links ahead of a call whose own checks leave it to the tag
 links_passed : (b c : Bool) (one by_tag : Answer) (t o : List ℕ) → b ≡ true → c ≡ true → done_of one ≡ true
     → (need_of b AfterLast (need_of c SegmentLength (cond (done_of one) by_tag one)) ≡ by_tag) × (cond (b && c) (cond (done_of one) t o) o ≡ t)
 unfolding need_of
@@ -168,7 +154,7 @@ module _ (w : Width) (key nonce : List ℕ) (T : Terms) (note : List ℕ) (W : W
         open_rounds (row_bytes w) (tag_bytes w) T.rounds (length key) (length its_own) (length its_header) (length text) 0 (length out) one,
       )
 
-  -- the tag decides where no number refuses, and else their answer stands and the output as it was
+  -- the tag decides where no number refuses
   pub take_tag : done_of numbers ≡ true
       → (take_answer w key nonce T note W last text out ≡ tag_answer w T.rounds key its_own its_header text [] out)
       × (take_out w key nonce T note W last text out ≡ tag_out w T.rounds key its_own its_header text [] out)
@@ -176,13 +162,6 @@ module _ (w : Width) (key nonce : List ℕ) (T : Terms) (note : List ℕ) (W : W
   take_tag e =
       let p = take_passed e in
       links_passed (not W.complete) (sealed_ok W.index last (tag_bytes w) (length text)) one_call _ _ _ p.0.0 p.0.1 p.1
-
-  pub take_numbers : done_of numbers ≡ false → (take_answer w key nonce T note W last text out ≡ numbers) × (take_out w key nonce T note W last text out ≡ out)
-  unfolding take_answer take_out take_links open_answer open_out
-  take_numbers e = (
-    links_answer (not W.complete) (sealed_ok W.index last (tag_bytes w) (length text)) _ _ one_call _ e,
-    links_out (not W.complete) (sealed_ok W.index last (tag_bytes w) (length text)) _ _ one_call _ _ e,
-  )
 
   -- a segment that is taken has an index below the most
   pub take_below : done_of (take_answer w key nonce T note W last text out) ≡ true → W.index < most_segments

@@ -10,7 +10,7 @@ use crate::next;
 use answers::{Outcome, Refusal};
 use cutting::Waiting;
 use places::start_answer;
-use places::terms::{Edition, Terms};
+use places::terms::Terms;
 use rules::SEGMENT_NUMBER;
 use rules::w32::*;
 
@@ -79,27 +79,18 @@ impl Receiver {
     pub fn none() -> Receiver
         ensures { result ≡ made32 (no_receiving word32) }
     {
-        let edition = Edition {
-            job: 0,
-            revision: 0,
-        };
-        let terms = Terms { rounds: 0, edition };
-        Receiver::first([0; ROW], [0; JOB_NONCE], terms)
+        Receiver::first([0; ROW], [0; JOB_NONCE], Terms::default())
     }
 
     // Waits for the first segment.
     fn first(key: [u8; ROW], nonce: [u8; JOB_NONCE], terms: Terms) -> Receiver
         ensures { result ≡ made32 (record { key = key; nonce = nonce; terms = terms; waiting = waiting_first }) }
     {
-        let waiting = Waiting {
-            index: 0,
-            complete: false,
-        };
         Receiver {
             key,
             nonce,
             terms,
-            waiting,
+            waiting: Waiting::default(),
         }
     }
 

@@ -53,9 +53,6 @@ module _ (K : Kind) where
       et ∙ ap₂ (λ (q : Place) (u : State). K.make q (flat_of u) k) ep es
       ∙ ap (λ (x : List ℕ). K.make (fresh_place T) (flat_of (fresh_state K.width K.tag_bits T x (row_of K.width nonce))) x) ek
 
-  pub closed_made : (p : Place) (s : State) (t : K.Session) → p ≡ closed_place → s ≡ rows_of (replicate 16 0) → t ≡ K.make p (flat_of s) (replicate 4 0) → t ≡ closed_of K
-  closed_made p s t ep es et = et ∙ ap₂ (λ (q : Place) (u : State). K.make q (flat_of u) (replicate 4 0)) ep es
-
 -- ---- piece
 
 -- what a piece came to before its answer was looked at: the session's place, the test of the output, and the answer
