@@ -6,14 +6,14 @@ set -eu
 cd "$(dirname "$0")/.."
 
 sorted_names() {
-    grep -Eo '[a-z_]+(32|64)?' | sort -u
+    grep -Eo '[a-z0-9_]+' | sort -u
 }
 
 # Behind a name crates.txt may say that it is of a static library.
 listed=$(sed -e 's/#.*//' -n -e 's/^\([a-z0-9_]*\).*:.*/\1/p' crates.txt | sorted_names)
 drawn=$(sed -n 's/.*class="name"[^>]*>\([a-z0-9_]*\)<.*/\1/p' docs/layers.svg | sorted_names)
 written=$(awk '/^```/ { on = !on; if (!on) exit; next } on' docs/ARCHITECTURE.md | cut -c18- |
-    awk -F '  +' 'NF { print $1; if ($2 ~ /^[a-z]+64$/) print $2 }' | sorted_names)
+    awk -F '  +' 'NF { print $1 }' | sorted_names)
 tabled=$(sed -n 's/^| \(`crates[^|]*\)|.*/\1/p' README.md | sed 's/crates\///g' | sorted_names)
 
 for place in drawn written tabled; do

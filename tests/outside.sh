@@ -47,7 +47,6 @@ try() { # WHAT NAME COMMAND..
 }
 
 echo "$left tests outside the proof. V=1 shows all that they say; target/log/outside-*.out has it."
-try "the narrow side from the wide side" twins tests/twins.sh
 try "every crate and edit in the docs" named tests/named.sh
 try "the planning page and its figures" planning tests/planning.sh --check
 try "the C library" library tests/library.sh

@@ -1,5 +1,6 @@
 # Reads what objdump shows of the archive, and says how the round of P is compiled at each width: of the functions that
-# make the turns of the loop over blocks, the innermost loop with the most xors.
+# make the turns of the loop over blocks, the innermost loop with the most xors. A function over the width has an instance for
+# each, whose name does not say which it is; its rotates and shifts do.
 
 BEGIN {
     # Even by vectors a round has two times four steps with three xors each.
@@ -8,7 +9,7 @@ BEGIN {
 }
 
 function begin_function(name) {
-    width = name ~ /blocks32::turns/ ? 32 : name ~ /blocks64::turns/ ? 64 : 0
+    makes_turns = name ~ /blocks::turns::/
     count = 0
     latest_begin = 0
     split("", place_of)
@@ -30,8 +31,15 @@ function described(first, last) {
         count_of("[(]%r[sb]p", first, last) " stack accesses"
 }
 
-function weigh(first, last,    xors) {
+function width_of(first, last,    wide, narrow) {
+    wide = count_of("^v?ps[lr]lq|^(ro[lr]|sh[lr]d).*%r([a-z][a-z]|[0-9]+)$", first, last)
+    narrow = count_of("^v?ps[lr]ld|^(ro[lr]|sh[lr]d).*%(e[a-z][a-z]|r[0-9]+d)$", first, last)
+    return wide > narrow ? 64 : 32
+}
+
+function weigh(first, last,    xors, width) {
     xors = count_of("^v?p?xor", first, last)
+    width = width_of(first, last)
     if (xors < least_xors || xors <= most_xors[width])
         return
     most_xors[width] = xors
@@ -57,7 +65,7 @@ function tell(width) {
 
 /^[0-9a-f]+ <.*>:$/ { begin_function($2) }
 
-width && /^ *[0-9a-f]+:\t/ {
+makes_turns && /^ *[0-9a-f]+:\t/ {
     place_of[substr($1, 1, length($1) - 1)] = ++count
     instruction[count] = substr($0, index($0, "\t") + 1)
     if ($2 ~ /^j/ && ($3 in place_of))
