@@ -16,7 +16,6 @@ use Rattle.std.specs.List.{HoldsAt, starts_with}
 use Rattle.std.proofs.lemmas.Bool.Decides.{Decides-eqb}
 use Rattle.std.proofs.lemmas.List.{take_rest}
 use Rattle.std.proofs.lemmas.Slice.Eq.{starts_is}
-use Rattle.norx.specs.Norx.{same}
 use Rattle.answers.proofs.Chain.{both, and_true}
 use Rattle.rules.specs.Rules.{segment_bytes}
 use Rattle.cutting.specs.Cutting.{segment_ok}
