@@ -1,8 +1,9 @@
 // A long job of an edition, cut into two segments, and what these are sealed to.
 use crate::job::{KEY, NOTE, fill, part};
 use places::terms::Terms;
-use rules::{SEGMENT, w32, w64};
+use rules::{SEGMENT, SEGMENT_NUMBER};
 use std::alloc::{AllocError, Global};
+use words::word::row_bytes;
 
 // The bytes of the last segment.
 const REST: usize = 100;
@@ -20,16 +21,16 @@ pub(crate) struct Job<'a> {
 
 // The bytes of a key, which a tag has too.
 pub(crate) fn row(width: u32) -> usize {
-    if width == 64 { w64::ROW } else { w32::ROW }
+    if width == 64 {
+        row_bytes::<u64>()
+    } else {
+        row_bytes::<u32>()
+    }
 }
 
 // The bytes of a job's nonce.
 pub(crate) fn nonce_length(width: u32) -> usize {
-    if width == 64 {
-        w64::JOB_NONCE
-    } else {
-        w32::JOB_NONCE
-    }
+    row(width).saturating_sub(SEGMENT_NUMBER)
 }
 
 pub(crate) fn key(width: u32) -> &'static [u8] {

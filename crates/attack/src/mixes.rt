@@ -39,27 +39,27 @@ fn either_nonce(alloc: Global, width: u32, rounds: u32, e: Editions) -> Result<T
 
 // A receiver for each edition, started with that nonce.
 fn under(nonce: &[u8], own: &Job, other: &Job) -> Tally {
-    jobs(Served::started(own, nonce), other) + jobs(Served::started(other, nonce), own)
+    jobs(&Served::started(own, nonce), other) + jobs(&Served::started(other, nonce), own)
 }
 
 // Every two of the eight offers, one after the other. A receiver is a value: from what it is after the first offer, it goes on with each second one.
-fn jobs(s: Served, other: &Job) -> Tally {
+fn jobs(s: &Served, other: &Job) -> Tally {
     each_offer(s, other, |s| each_offer(s, other, twice_judged))
 }
 
 // The first segment or the last one, of the one edition or of the other, called the last or not: what comes of each.
-fn each_offer<F: Fn(Served) -> Tally>(s: Served, other: &Job, judged: F) -> Tally
+fn each_offer<F: Fn(&Served) -> Tally>(s: &Served, other: &Job, judged: F) -> Tally
     requires { F.IsAlwaysCallable judged }
 {
     let own = s.own;
     let mut tally = Tally::default();
     for sealed in [&own.first, &own.last, &other.first, &other.last] {
-        tally = tally + judged(s.offered(false, sealed)) + judged(s.offered(true, sealed));
+        tally = tally + judged(&s.offered(false, sealed)) + judged(&s.offered(true, sealed));
     }
     tally
 }
 
 // As a job by itself, and with the own last segment behind it.
-fn twice_judged(s: Served) -> Tally {
+fn twice_judged(s: &Served) -> Tally {
     s.verdict() + s.offered(true, &s.own.last).verdict()
 }

@@ -26,23 +26,26 @@ impl<'a> Served<'a> {
         }
     }
 
-    // Offers a segment.
-    pub(crate) fn offered(mut self, last: bool, sealed: &[u8]) -> Served<'a> {
+    // What it is once a segment was offered.
+    pub(crate) fn offered(&self, last: bool, sealed: &[u8]) -> Served<'a> {
         let mut room = [0; SEGMENT];
         let n = sealed.len().saturating_sub(row(self.own.width));
         let out = &mut room[..n.min(SEGMENT)];
-        let step = self.receiver.take(&NOTE, last, sealed, out);
-        self.receiver = step.receiver;
-        if step.answer.is_ok() {
-            self.honest = self.honest && &*out == self.own.message(self.segments);
-            self.segments = self.segments.saturating_add(1);
+        let receiver = self.receiver;
+        let step = receiver.take(&NOTE, last, sealed, out);
+        let done = step.answer.is_ok();
+        Served {
+            own: self.own,
+            receiver: step.receiver,
+            segments: self.segments.saturating_add(done as u8),
+            honest: self.honest && (!done || &*out == self.own.message(self.segments)),
         }
-        self
     }
 
     // A job passed where the receiver is complete; it is unmixed where all that was handed out is the honest job.
-    pub(crate) fn verdict(self) -> Tally {
-        let complete = self.receiver.waiting().complete;
+    pub(crate) fn verdict(&self) -> Tally {
+        let receiver = self.receiver;
+        let complete = receiver.waiting().complete;
         Tally::one_job(self.honest && self.segments == 2, complete)
     }
 }

@@ -119,12 +119,13 @@ impl<'a> Run<'a> {
     }
 
     // Offers the trailer, and closes the session. A job passed where the close is done; it is unmixed where all that was accepted, the tag and the close are the edition's own.
-    fn close(mut self, end: End) -> Tally {
+    fn close(&mut self, end: End) -> Tally {
         let own = self.pair.own;
         self.piece(label(own.edition, Part::Trailer, 0), &TRAILER);
         let said = self.pair.whose(end.foreign_close).edition;
         let tag = self.pair.whose(end.foreign_tag).tag();
-        let step = self.session.close(said, tag, &mut []);
+        let session = self.session;
+        let step = session.close(said, tag, &mut []);
         let unmixed = self.accepted.whole() && !end.foreign_close && tag == own.tag();
         Tally::one_job(unmixed, step.answer.is_ok())
     }

@@ -7,7 +7,6 @@ ghost use Rattle.cutting.specs.Cutting.{count_of, begin_of, end_of, segment_ok, 
 
 use answers::{Refusal, need};
 use rules::{MOST_SEGMENTS, SEGMENT, SEGMENT_NUMBER};
-use words::w64::store;
 
 // Which segment a receiver waits for, and whether it has taken the last one.
 #[derive(Clone, Copy, Default)]
@@ -65,7 +64,7 @@ fn sealed_ok(i: u64, last: bool, tag: usize, n: usize) -> bool
 pub fn number(i: u64, last: bool) -> [u8; SEGMENT_NUMBER]
     ensures { result ≡ eight_bytes (segment_number i last) }
 {
-    store(number_word(i, last))
+    number_word(i, last).to_le_bytes()
 }
 
 // The same as a word; of a number over 64 bits, the last 64.

@@ -12,8 +12,8 @@ use Rattle.places.specs.declared.Standing.{Standing}
 use Rattle.places.specs.declared.Standing.TheVariants.{Closed, Open}
 use Rattle.sealing.specs.Widths.{seal_answer_at, seal_runs_at, seal_out_at, open_answer_at, open_runs_at, open_out_at}
 use Rattle.held.specs.declared.Held.{Held}
-use Rattle.held.specs.declared.HeldStep.{HeldStep}
-use Rattle.held.specs.Held.{held_start, held_piece, held_piece_out, held_close, held_tag}
+use Rattle.session.specs.declared.session.Close.{Close}
+use Rattle.held.specs.Held.{held_start, held_piece, held_piece_out, held_close, held_tag, held_checks, held_put}
 use Rattle.dispatch.specs.declared.Words.{Words}
 
 -- a number's last 32 bits
@@ -44,22 +44,13 @@ label_of a = record { edition = edition_of a.first a.second; part = part_of a.th
 
 -- what is held, at another place: note, body, trailer, rounds, job, revision, standing
 abbrev pub placed : Held → Words → Standing → Terms → Held
-placed h a standing T =
-    record {
-      check = h.check;
-      wide = h.wide;
-      words32 = h.words32;
-      key32 = h.key32;
-      words64 = h.words64;
-      key64 = h.key64;
-      place = record { standing = standing; note = a.first; body = a.second; trailer = a.third; terms = T };
-    }
+placed h a standing T = held_put h (record { standing = standing; note = a.first; body = a.second; trailer = a.third; terms = T })
 
 abbrev pub put_call : Words → Held → Held
 put_call a h = placed h a (standing_of a.seventh) (terms_of a.fourth a.fifth a.sixth)
 
 -- an outcome that leaves the session as it was
-abbrev pub answered : Held → Outcome → HeldStep
+abbrev pub answered : Held → Outcome → Close Held
 answered h o = record { answer = o.answer; runs = o.runs; session = h }
 
 -- by the number of a call: 1 seals, 2 opens, 3 starts a sealing and 4 a checking session, 5 offers a piece, and any other closes
@@ -85,25 +76,25 @@ module _ (a : Words) (m : List ℕ) where
       f (low a.first) (low a.second) (stretch_of 0 a.third m) (stretch_of a.third a.fourth m) (stretch_of a.fourth a.fifth m)
       (stretch_of a.fifth a.sixth m) (stretch_of a.sixth a.seventh m)
 
-  unfoldable pub one_call : Bool → Held → List ℕ → HeldStep
+  unfoldable pub one_call : Bool → Held → List ℕ → Close Held
   one_call opens h out = answered h (by_texts (outcome_at opens) out)
 
   unfoldable pub one_call_out : Bool → List ℕ → List ℕ
   one_call_out opens out = by_texts (out_at opens) out
 
   -- width, rounds, key, nonce, job, revision; the width is 64, or else 32
-  unfoldable pub start_call : Bool → HeldStep
+  unfoldable pub start_call : Bool → Close Held
   start_call check = held_start check (eqb a.first 64) (stretch_of 0 a.third m) (stretch_of a.third a.fourth m) (terms_of a.second a.fifth a.sixth)
 
   -- job, revision, part, offset, bytes
-  unfoldable pub piece_call : Held → List ℕ → HeldStep
+  unfoldable pub piece_call : Held → List ℕ → Close Held
   piece_call h out = held_piece h (label_of a) (stretch_of 0 a.fifth m) out
 
   unfoldable pub piece_call_out : Held → List ℕ → List ℕ
   piece_call_out h out = held_piece_out h (label_of a) (stretch_of 0 a.fifth m) out
 
   -- job, revision, and the bytes of a tag
-  unfoldable pub close_call : Held → List ℕ → HeldStep
+  unfoldable pub close_call : Held → List ℕ → Close Held
   close_call h out = held_close h (edition_of a.first a.second) (stretch_of 0 a.third m) out
 
   unfoldable pub close_call_tag : Held → List ℕ → List ℕ
@@ -111,7 +102,7 @@ module _ (a : Words) (m : List ℕ) where
 
 -- ---- The call of a number
 
-unfoldable pub made_call : ℕ → Words → List ℕ → Held → List ℕ → HeldStep
+unfoldable pub made_call : ℕ → Words → List ℕ → Held → List ℕ → Close Held
 made_call k a m h out = by_number k (one_call a m false h out) (one_call a m true h out) (start_call a m false) (start_call a m true) (piece_call a m h out) (close_call a m h out)
 
 -- a start has no output
@@ -126,9 +117,9 @@ unfoldable pub is_call : ℕ → Words → Held → Bool
 is_call k a h =
     (eqb k 1 || eqb k 2 || eqb k 10 || eqb k 12 || eqb k 14)
     || ((eqb k 3 || eqb k 4 || eqb k 11) && (eqb a.first 32 || eqb a.first 64))
-    || (eqb k 5 && (not h.check || eqb a.sixth 0))
-    || (eqb k 6 && not h.check)
-    || (eqb k 7 && h.check)
+    || (eqb k 5 && (not (held_checks h) || eqb a.sixth 0))
+    || (eqb k 6 && not (held_checks h))
+    || (eqb k 7 && held_checks h)
 
 -- the i'th of the constants u0 to u15 at a width; 0 from 16 on
 unfoldable pub constant_at : Width → ℕ → ℕ

@@ -3,7 +3,8 @@
 use Rattle.answers.specs.Answers.{Answer}
 use Rattle.std.specs.Prelude.{ℕ, cond, List, eqb}
 use Rattle.answers.specs.declared.Outcome.{Outcome}
-use Rattle.held.specs.declared.HeldStep.{HeldStep}
+use Rattle.session.specs.declared.session.Close.{Close}
+use Rattle.held.specs.declared.Held.{Held}
 use Rattle.held.specs.declared.receiver.HeldReceiverStep.{HeldReceiverStep}
 use Rattle.dispatch.specs.declared.Words.{Words}
 use Rattle.dispatch.specs.declared.kept.Kept.{Kept}
@@ -21,7 +22,7 @@ unrun answer = record { answer = answer; runs = 0 }
 abbrev pub kept_receiver : Kept → HeldReceiverStep → KeptStep
 kept_receiver h t = record { answer = t.answer; runs = t.runs; kept = record { session = h.session; receiver = t.receiver } }
 
-abbrev pub kept_session : Kept → HeldStep → KeptStep
+abbrev pub kept_session : Kept → Close Held → KeptStep
 kept_session h t = record { answer = t.answer; runs = t.runs; kept = record { session = t.session; receiver = h.receiver } }
 
 -- by the number of a call: 10 seals a segment, 11 starts a receiver, 12 takes a segment, 14 writes a list, and any other is one on the session

@@ -5,8 +5,9 @@ ghost use Rattle.dispatch.specs.Kept.{kept_receiver, kept_session, kept_call, ke
 use crate::jobs::{list, receiver, segment, take};
 use crate::{Words, make};
 use answers::Refusal;
+use held::Held;
 use held::receiver::{HeldReceiver, HeldReceiverStep};
-use held::{Held, HeldStep};
+use session::session::Close;
 
 #[derive(Clone, Copy)]
 pub struct Kept {
@@ -68,7 +69,7 @@ fn with_receiver(mut kept: Kept, step: HeldReceiverStep) -> KeptStep
     }
 }
 
-fn with_session(mut kept: Kept, step: HeldStep) -> KeptStep
+fn with_session(mut kept: Kept, step: Close<Held>) -> KeptStep
     ensures { result ≡ kept_session kept step }
 {
     let answer = step.answer;

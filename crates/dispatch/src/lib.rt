@@ -2,17 +2,19 @@
 #![tactic(auto)]
 
 ghost use Rattle.std.specs.Prelude.{◌≡◌};
-ghost use Rattle.dispatch.specs.Calls.{low as low_of, stretch_of, part_of, edition_of, terms_of, label_of, outcome_at, out_at, one_call, one_call_out, start_call, piece_call, piece_call_out, close_call, close_call_tag, standing_of, put_call, made_call, made_out, is_call, constant_of};
+ghost use Rattle.dispatch.specs.Calls.{low as low_of, stretch_of, part_of, edition_of, terms_of, label_of, outcome_at, out_at, one_call, one_call_out, start_call, piece_call, piece_call_out, close_call, close_call_tag, standing_of, put_call, made_call, made_out, is_call, constant_at, constant_of};
 
 use answers::Outcome;
-use held::{Held, HeldStep};
+use held::Held;
+use permutation::rounds::permute;
 use places::terms::{Edition, Terms};
 use places::{Label, Part, Place, Standing};
+use session::session::Close;
+use words::state::{Row, State};
+use words::word::Word;
 
 pub mod jobs;
 pub mod kept;
-mod w32;
-mod w64;
 
 // The words of a call, in their order: a number, or of a text the place in the memory where it ends; it begins where the text before it ended, the first at 0.
 #[derive(Clone, Copy)]
@@ -38,7 +40,7 @@ const OPENING: bool = true;
 const CHECKING: bool = true;
 
 // Makes the call of a number: 1 seals, 2 opens, 3 starts a sealing and 4 a checking session, 5 offers a piece, and any other closes.
-pub fn make(k: usize, a: Words, memory: &[u8], held: Held, out: &mut [u8]) -> HeldStep
+pub fn make(k: usize, a: Words, memory: &[u8], held: Held, out: &mut [u8]) -> Close<Held>
     ensures step { result ≡ made_call k a memory.now held out.old }
     ensures output { out.new ≡ made_out k a memory.now held out.old }
 {
@@ -64,16 +66,17 @@ pub fn make(k: usize, a: Words, memory: &[u8], held: Held, out: &mut [u8]) -> He
 pub fn is_call(k: usize, a: Words, held: Held) -> bool
     ensures { result ≡ is_call k a held }
 {
+    let checking = held.checks();
     let asks_nothing = (k == 1) | (k == 2) | (k == 10) | (k == 12) | (k == 14);
     let starts = ((k == 3) | (k == 4) | (k == 11)) & ((a.first == 32) | (a.first == 64));
-    let offers = (k == 5) & (!held.check | (a.sixth == 0));
-    let closes = (k == 6) & !held.check;
-    let checks = (k == 7) & held.check;
+    let offers = (k == 5) & (!checking | (a.sixth == 0));
+    let closes = (k == 6) & !checking;
+    let checks = (k == 7) & checking;
     asks_nothing | starts | offers | closes | checks
 }
 
 // Opens, or else seals: width, rounds, key, nonce, header, text, trailer.
-fn one_call(opens: bool, a: Words, memory: &[u8], held: Held, out: &mut [u8]) -> HeldStep
+fn one_call(opens: bool, a: Words, memory: &[u8], held: Held, out: &mut [u8]) -> Close<Held>
     ensures step { result ≡ one_call a memory.now opens held out.old }
     ensures output { out.new ≡ one_call_out a memory.now opens out.old }
 {
@@ -88,10 +91,10 @@ fn one_call(opens: bool, a: Words, memory: &[u8], held: Held, out: &mut [u8]) ->
         stretch(memory, a.sixth, a.seventh),
         out,
     );
-    let answer = outcome.answer;
-    HeldStep {
+    let Outcome { answer, runs } = outcome;
+    Close {
         answer,
-        runs: outcome.runs,
+        runs,
         session: held,
     }
 }
@@ -119,7 +122,7 @@ fn opened_or_sealed(
 }
 
 // Width, which is 64 or else 32, rounds, key, nonce, job, revision.
-fn start(check: bool, a: Words, memory: &[u8]) -> HeldStep
+fn start(check: bool, a: Words, memory: &[u8]) -> Close<Held>
     ensures { result ≡ start_call a memory.now check }
 {
     Held::start(
@@ -132,7 +135,7 @@ fn start(check: bool, a: Words, memory: &[u8]) -> HeldStep
 }
 
 // Job, revision, part, offset, bytes.
-fn piece(a: Words, memory: &[u8], held: Held, out: &mut [u8]) -> HeldStep
+fn piece(a: Words, memory: &[u8], held: Held, out: &mut [u8]) -> Close<Held>
     ensures step { result ≡ piece_call a memory.now held out.old }
     ensures output { out.new ≡ piece_call_out a memory.now held out.old }
 {
@@ -140,7 +143,7 @@ fn piece(a: Words, memory: &[u8], held: Held, out: &mut [u8]) -> HeldStep
 }
 
 // Job, revision, and the tag that a checking session is given.
-fn close(a: Words, memory: &[u8], held: Held, out: &mut [u8]) -> HeldStep
+fn close(a: Words, memory: &[u8], held: Held, out: &mut [u8]) -> Close<Held>
     ensures step { result ≡ close_call a memory.now held out.old }
     ensures tag { out.new ≡ close_call_tag a memory.now held out.old }
 {
@@ -148,18 +151,16 @@ fn close(a: Words, memory: &[u8], held: Held, out: &mut [u8]) -> HeldStep
 }
 
 // The same session at another place: note, body, trailer, rounds, job, revision, standing.
-pub fn put(a: Words, mut held: Held) -> Held
+pub fn put(a: Words, held: Held) -> Held
     ensures { result ≡ put_call a held }
 {
-    let place = Place {
+    held.put(Place {
         standing: standing(a.seventh),
         note: a.first,
         body: a.second,
         trailer: a.third,
         terms: terms(a.fourth, a.fifth, a.sixth),
-    };
-    held.place = place;
-    held
+    })
 }
 
 // The i'th of the constants u0 to u15 at a width; 0 from 16 on.
@@ -167,10 +168,25 @@ pub fn constant(wide: bool, i: usize) -> u64
     ensures { result ≡ constant_of wide i }
 {
     if wide {
-        w64::constant(i)
+        constant_at::<u64>(i)
     } else {
-        w32::constant(i) as u64
+        constant_at::<u32>(i)
     }
+}
+
+// The constants are what two rounds make of the state 0, 1, ..., 15.
+const TWO_ROUNDS: u32 = 2;
+
+fn constant_at<W: Word>(i: usize) -> u64
+    ensures { result ≡ constant_at W.width i }
+{
+    let counted = State::<W> {
+        a: Row::of_numbers(0, 1, 2, 3),
+        b: Row::of_numbers(4, 5, 6, 7),
+        c: Row::of_numbers(8, 9, 10, 11),
+        d: Row::of_numbers(12, 13, 14, 15),
+    };
+    permute(counted, TWO_ROUNDS).number(i)
 }
 
 // The bytes from a place up to another; none where these are no places of the memory in that order.

@@ -4,8 +4,9 @@
 use answers::{Refusal, number};
 use places::terms::{Edition, Terms};
 use places::{Label, Part};
-use session64::check::{Checking, CheckingStep};
-use session64::seal::{Sealing, SealingStep};
+use session::check::Checking;
+use session::seal::Sealing;
+use session::session::Step;
 use std::io;
 
 // The key that both sides have.
@@ -36,11 +37,11 @@ fn body(offset: usize) -> Label {
 // Seals the job into the text and its tag; gives the first refusal and goes no further.
 fn seal(text: &mut [u8], tag: &mut [u8; 32]) -> Result<(), Refusal> {
     let half = text.len() / 2;
-    let SealingStep { answer, session } = Sealing::start(&KEY, &NONCE, TERMS);
+    let Step { answer, session } = Sealing::<u64>::start(&KEY, &NONCE, TERMS);
     answer?;
-    let SealingStep { answer, session } = session.piece(body(0), b"G1 X10\n", &mut text[..half]);
+    let Step { answer, session } = session.piece(body(0), b"G1 X10\n", &mut text[..half]);
     answer?;
-    let SealingStep { answer, session } = session.piece(body(half), b"G1 Y20\n", &mut text[half..]);
+    let Step { answer, session } = session.piece(body(half), b"G1 Y20\n", &mut text[half..]);
     answer?;
     session.close(EDITION, tag).answer
 }
@@ -48,22 +49,22 @@ fn seal(text: &mut [u8], tag: &mut [u8; 32]) -> Result<(), Refusal> {
 // Checks the text in other pieces; the answer is Ok only where it has this tag.
 fn check(rt: &impl Print, text: &[u8], tag: &[u8; 32]) -> io::Result<Result<(), Refusal>> {
     let third = text.len() / 3;
-    let CheckingStep { answer, session } = Checking::start(&KEY, &NONCE, TERMS);
+    let Step { answer, session } = Checking::<u64>::start(&KEY, &NONCE, TERMS);
     if answer.is_err() {
         return Ok(answer);
     }
-    let CheckingStep { answer, session } = session.piece(body(0), &text[..third]);
+    let Step { answer, session } = session.piece(body(0), &text[..third]);
     if answer.is_err() {
         return Ok(answer);
     }
     // A piece that comes twice is refused, and the session is given back as it was.
-    let CheckingStep { answer, session } = session.piece(body(0), &text[..third]);
+    let Step { answer, session } = session.piece(body(0), &text[..third]);
     tell(
         rt,
         "the first piece once more, from an old offset: ",
         answer,
     )?;
-    let CheckingStep { answer, session } = session.piece(body(third), &text[third..]);
+    let Step { answer, session } = session.piece(body(third), &text[third..]);
     if answer.is_err() {
         return Ok(answer);
     }

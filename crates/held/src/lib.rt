@@ -1,35 +1,23 @@
-// A session of either kind and width, in plain numbers: for programs that are told by data which it is.
+// A session of either kind and width: for programs that are told by data which it is.
 #![tactic(auto)]
 
 ghost use Rattle.std.specs.Prelude.{◌≡◌};
-ghost use Rattle.held.specs.Held.{closed_held, held_start, held_piece, held_piece_out, held_close, held_tag, held_word};
+ghost use Rattle.held.specs.At.{held_close_of};
+ghost use Rattle.held.specs.declared.Held.TheVariants.{Narrow, Wide};
+ghost use Rattle.held.specs.Held.{closed_held, held_start, held_piece, held_piece_out, held_close, held_tag, held_wide, held_place, held_checks, held_put, held_word};
 
-use answers::Refusal;
+use at::HeldAt;
 use places::terms::{Edition, Terms};
-use places::{Label, Place, closed_place};
+use places::{Label, Place};
+use session::session::Close;
 
+pub mod at;
 pub mod receiver;
-mod w32;
-mod w64;
 
-// Its words and its key at its width (those of the other width are of no account), and where it stands.
 #[derive(Clone, Copy)]
-pub struct Held {
-    pub check: bool,
-    pub wide: bool,
-    pub words32: [u32; 16],
-    pub key32: [u32; 4],
-    pub words64: [u64; 16],
-    pub key64: [u64; 4],
-    pub place: Place,
-}
-
-// What a call answers, the runs of P that a close reports, which are 0 of any other call, and the session to go on with.
-#[derive(Clone, Copy)]
-pub struct HeldStep {
-    pub answer: Result<(), Refusal>,
-    pub runs: u32,
-    pub session: Held,
+pub enum Held {
+    Narrow(HeldAt<u32>),
+    Wide(HeldAt<u64>),
 }
 
 impl Held {
@@ -37,61 +25,117 @@ impl Held {
     pub fn closed(check: bool, wide: bool) -> Held
         ensures { result ≡ closed_held check wide }
     {
-        Held {
-            check,
-            wide,
-            words32: [0; 16],
-            key32: [0; 4],
-            words64: [0; 16],
-            key64: [0; 4],
-            place: closed_place(),
+        if wide {
+            Held::Wide(HeldAt::closed(check))
+        } else {
+            Held::Narrow(HeldAt::closed(check))
         }
     }
 
-    // Starts a session of a kind and a width; the closed session where the start is refused.
-    pub fn start(check: bool, wide: bool, key: &[u8], nonce: &[u8], terms: Terms) -> HeldStep
+    // Starts a session of a kind and a width; the closed session where the start is refused. It reports no runs.
+    #[tactic(auto, unfolding(crate::specs::Held::held_start))]
+    pub fn start(check: bool, wide: bool, key: &[u8], nonce: &[u8], terms: Terms) -> Close<Held>
         ensures { result ≡ held_start check wide key.now nonce.now terms }
     {
-        let h = Held::closed(check, wide);
         if wide {
-            w64::start(h, key, nonce, terms)
+            with_wide(HeldAt::start(check, key, nonce, terms))
         } else {
-            w32::start(h, key, nonce, terms)
+            with_narrow(HeldAt::start(check, key, nonce, terms))
         }
     }
 
-    // Offers a piece; a checking session leaves the output alone.
-    pub fn piece(self, label: Label, bytes: &[u8], out: &mut [u8]) -> HeldStep
+    // Offers a piece; a checking session leaves the output alone. It reports no runs.
+    #[tactic(auto, unfolding(crate::specs::Held::held_piece, crate::specs::Held::held_piece_out))]
+    pub fn piece(self, label: Label, bytes: &[u8], out: &mut [u8]) -> Close<Held>
         ensures step { result ≡ held_piece self label bytes.now out.old }
         ensures output { out.new ≡ held_piece_out self label bytes.now out.old }
     {
-        if self.wide {
-            w64::piece(self, label, bytes, out)
-        } else {
-            w32::piece(self, label, bytes, out)
+        match self {
+            Held::Narrow(h) => with_narrow(h.piece(label, bytes, out)),
+            Held::Wide(h) => with_wide(h.piece(label, bytes, out)),
         }
     }
 
     // Closes: a sealing session writes its tag, a checking session holds its own to the one that is given.
-    pub fn close(self, edition: Edition, given: &[u8], tag: &mut [u8]) -> HeldStep
+    #[tactic(auto, unfolding(crate::specs::Held::held_close, crate::specs::Held::held_tag))]
+    pub fn close(self, edition: Edition, given: &[u8], tag: &mut [u8]) -> Close<Held>
         ensures step { result ≡ held_close self edition given.now tag.old }
         ensures tag { tag.new ≡ held_tag self edition tag.old }
     {
-        if self.wide {
-            w64::close(self, edition, given, tag)
-        } else {
-            w32::close(self, edition, given, tag)
+        match self {
+            Held::Narrow(h) => with_narrow(h.close(edition, given, tag)),
+            Held::Wide(h) => with_wide(h.close(edition, given, tag)),
         }
     }
 
-    // The i'th of its 16 words and the 4 of its key behind them, at its width; 0 where there is none.
-    pub fn word(self, i: usize) -> u64
-        ensures { result ≡ held_word self i }
+    // Whether its words have 64 bits.
+    pub fn is_wide(&self) -> bool
+        ensures { result ≡ held_wide self.now }
     {
-        if self.wide {
-            w64::word(self, i)
-        } else {
-            w32::word(self, i) as u64
+        match self {
+            Held::Narrow(_) => false,
+            Held::Wide(_) => true,
         }
+    }
+
+    // Where it stands.
+    pub fn place(&self) -> Place
+        ensures { result ≡ held_place self.now }
+    {
+        match self {
+            Held::Narrow(h) => h.session().place,
+            Held::Wide(h) => h.session().place,
+        }
+    }
+
+    // Whether it checks.
+    pub fn checks(&self) -> bool
+        ensures { result ≡ held_checks self.now }
+    {
+        match self {
+            Held::Narrow(h) => h.checks(),
+            Held::Wide(h) => h.checks(),
+        }
+    }
+
+    // The same session at another place.
+    pub fn put(self, place: Place) -> Held
+        ensures { result ≡ held_put self place }
+    {
+        match self {
+            Held::Narrow(h) => Held::Narrow(h.put(place)),
+            Held::Wide(h) => Held::Wide(h.put(place)),
+        }
+    }
+
+    // The i'th of its 16 words and the 4 of its key behind them; 0 where there is none.
+    #[tactic(auto, unfolding(crate::specs::Held::held_word))]
+    pub fn word(&self, i: usize) -> u64
+        ensures { result ≡ held_word self.now i }
+    {
+        match self {
+            Held::Narrow(h) => h.word(i),
+            Held::Wide(h) => h.word(i),
+        }
+    }
+}
+
+fn with_narrow(close: Close<HeldAt<u32>>) -> Close<Held>
+    ensures { result ≡ held_close_of Narrow close }
+{
+    Close {
+        answer: close.answer,
+        runs: close.runs,
+        session: Held::Narrow(close.session),
+    }
+}
+
+fn with_wide(close: Close<HeldAt<u64>>) -> Close<Held>
+    ensures { result ≡ held_close_of Wide close }
+{
+    Close {
+        answer: close.answer,
+        runs: close.runs,
+        session: Held::Wide(close.session),
     }
 }

@@ -1,18 +1,17 @@
 // A receiver of either width: for programs that are told by data which it is.
 ghost use Rattle.std.specs.Prelude.{◌≡◌};
 ghost use Rattle.held.specs.Receivers.{held_none, held_started, held_taken, held_taken_out, held_waiting, held_put};
+ghost use Rattle.held.specs.declared.receiver.HeldReceiver.TheVariants.{Narrow, Wide};
 
 use answers::Refusal;
 use cutting::Waiting;
 use places::terms::Terms;
-use segments::{receiver32, receiver64};
+use segments::receiver::{Receiver, ReceiverStep, ReceiverTake};
 
-// The receiver of its width; that of the other width is of no account.
 #[derive(Clone, Copy)]
-pub struct HeldReceiver {
-    pub wide: bool,
-    pub narrow: receiver32::Receiver,
-    pub broad: receiver64::Receiver,
+pub enum HeldReceiver {
+    Narrow(Receiver<u32>),
+    Wide(Receiver<u64>),
 }
 
 // What a call answers, the runs of P that taking a segment reports, which are 0 of a start, and the receiver to go on with.
@@ -28,75 +27,55 @@ impl HeldReceiver {
     pub fn none(wide: bool) -> HeldReceiver
         ensures { result ≡ held_none wide }
     {
-        let narrow = receiver32::Receiver::none();
-        let broad = receiver64::Receiver::none();
-        HeldReceiver {
-            wide,
-            narrow,
-            broad,
+        if wide {
+            HeldReceiver::Wide(Receiver::none())
+        } else {
+            HeldReceiver::Narrow(Receiver::none())
         }
     }
 
     // Starts a receiver of a width.
+    #[tactic(auto, unfolding(crate::specs::Receivers::held_started))]
     pub fn start(wide: bool, key: &[u8], nonce: &[u8], terms: Terms) -> HeldReceiverStep
         ensures { result ≡ held_started wide key.now nonce.now terms }
     {
-        let mut held = HeldReceiver::none(wide);
         if wide {
-            let step = receiver64::Receiver::start(key, nonce, terms);
-            let answer = step.answer;
-            let broad = step.receiver;
-            held.broad = broad;
-            HeldReceiverStep {
-                answer,
-                runs: 0,
-                receiver: held,
-            }
+            started_wide(Receiver::start(key, nonce, terms))
         } else {
-            let step = receiver32::Receiver::start(key, nonce, terms);
-            let answer = step.answer;
-            let narrow = step.receiver;
-            held.narrow = narrow;
-            HeldReceiverStep {
-                answer,
-                runs: 0,
-                receiver: held,
-            }
+            started_narrow(Receiver::start(key, nonce, terms))
         }
     }
 
     // Takes the segment that it waits for.
-    pub fn take(
-        mut self,
-        note: &[u8],
-        last: bool,
-        sealed: &[u8],
-        out: &mut [u8],
-    ) -> HeldReceiverStep
+    #[tactic(auto, unfolding(crate::specs::Receivers::held_taken, crate::specs::Receivers::held_taken_out))]
+    pub fn take(self, note: &[u8], last: bool, sealed: &[u8], out: &mut [u8]) -> HeldReceiverStep
         ensures step { result ≡ held_taken self note.now last sealed.now out.old }
         ensures output { out.new ≡ held_taken_out self note.now last sealed.now out.old }
     {
-        if self.wide {
-            let own = self.broad;
-            let step = own.take(note, last, sealed, out);
-            let answer = step.answer;
-            let broad = step.receiver;
-            self.broad = broad;
-            HeldReceiverStep {
-                answer,
-                runs: step.runs,
-                receiver: self,
+        match self {
+            HeldReceiver::Narrow(r) => {
+                let ReceiverTake {
+                    answer,
+                    runs,
+                    receiver,
+                } = r.take(note, last, sealed, out);
+                HeldReceiverStep {
+                    answer,
+                    runs,
+                    receiver: HeldReceiver::Narrow(receiver),
+                }
             }
-        } else {
-            let own = self.narrow;
-            let step = own.take(note, last, sealed, out);
-            let answer = step.answer;
-            let narrow = step.receiver;
-            self.narrow = narrow;
-            HeldReceiverStep {
-                answer,
-                runs: step.runs,
-                receiver: self,
+            HeldReceiver::Wide(r) => {
+                let ReceiverTake {
+                    answer,
+                    runs,
+                    receiver,
+                } = r.take(note, last, sealed, out);
+                HeldReceiverStep {
+                    answer,
+                    runs,
+                    receiver: HeldReceiver::Wide(receiver),
+                }
             }
         }
     }
@@ -105,35 +84,47 @@ impl HeldReceiver {
     pub fn waiting(self) -> Waiting
         ensures { result ≡ held_waiting self }
     {
-        if self.wide {
-            let r = self.broad;
-            r.waiting
-        } else {
-            let r = self.narrow;
-            r.waiting
+        match self {
+            HeldReceiver::Narrow(r) => r.waiting,
+            HeldReceiver::Wide(r) => r.waiting,
         }
     }
 
     // The same, waiting elsewhere and with other rounds.
-    pub fn put(mut self, waiting: Waiting, rounds: u32) -> HeldReceiver
+    pub fn put(self, waiting: Waiting, rounds: u32) -> HeldReceiver
         ensures { result ≡ held_put self waiting rounds }
     {
-        if self.wide {
-            let mut r = self.broad;
-            let edition = r.terms.edition;
-            let terms = Terms { rounds, edition };
-            r.terms = terms;
-            r.waiting = waiting;
-            self.broad = r;
-            self
-        } else {
-            let mut r = self.narrow;
-            let edition = r.terms.edition;
-            let terms = Terms { rounds, edition };
-            r.terms = terms;
-            r.waiting = waiting;
-            self.narrow = r;
-            self
+        match self {
+            HeldReceiver::Narrow(mut r) => {
+                r.waiting = waiting;
+                r.terms.rounds = rounds;
+                HeldReceiver::Narrow(r)
+            }
+            HeldReceiver::Wide(mut r) => {
+                r.waiting = waiting;
+                r.terms.rounds = rounds;
+                HeldReceiver::Wide(r)
+            }
         }
+    }
+}
+
+fn started_narrow(step: ReceiverStep<u32>) -> HeldReceiverStep
+    ensures { result ≡ record { answer = step.answer; runs = 0; receiver = Narrow step.receiver } }
+{
+    HeldReceiverStep {
+        answer: step.answer,
+        runs: 0,
+        receiver: HeldReceiver::Narrow(step.receiver),
+    }
+}
+
+fn started_wide(step: ReceiverStep<u64>) -> HeldReceiverStep
+    ensures { result ≡ record { answer = step.answer; runs = 0; receiver = Wide step.receiver } }
+{
+    HeldReceiverStep {
+        answer: step.answer,
+        runs: 0,
+        receiver: HeldReceiver::Wide(step.receiver),
     }
 }

@@ -5,7 +5,6 @@ pub mod Rate
 pub mod Same
 pub mod Slices
 pub mod Loads
-pub mod Owned
 pub mod Replaced
 pub mod Overlay
 pub mod Blocks
@@ -19,6 +18,8 @@ pub mod Pieces
 pub mod Fed
 pub mod FedText
 pub mod Unfed
+pub mod InFront
+pub mod Widths
 pub mod Rotate
 pub mod Steps
 pub mod Constants

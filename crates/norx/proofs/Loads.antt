@@ -4,6 +4,7 @@ use mathlib.Core.Path.{◌≡◌, refl, ap, ap₂, ◌∙◌}
 use mathlib.Core.List.{List, [], ◌∷◌, ◌++◌}
 use Prim.Native.Nat.{ℕ, ◌+◌, ◌*◌, ◌/◌, ◌%◌, ◌^◌, ◌<◌, ◌≤◌}
 use native.Mathlib.Omega.{arith}
+use Rattle.std.specs.Int.{w32, w64, from_le_bytes, to_le_bytes}
 use lib.ListN.{length, get_or, take, drop}
 use Rattle.norx.specs.Norx.{word_of, bytes_of}
 use Rattle.norx.proofs.Slices.{list4}
@@ -61,3 +62,22 @@ pub bytes_halves : (x : ℕ) → bytes_of 4 (x % 2 ^ 32) ++ bytes_of 4 (x / 2 ^ 
 unfolding bytes_of
 bytes_halves x =
     ap₂ (λ (a b : List ℕ). a ++ b) (list4 (omega arith) (omega arith) (omega arith) (omega arith)) (list4 (omega arith) (omega arith) (omega arith) (omega arith))
+
+-- the machine's own way, at both widths
+pub load4 : (l : List ℕ) → length l ≡ 4 → from_le_bytes w32 (get_or l 0 0 ∷ get_or l 1 0 ∷ get_or l 2 0 ∷ get_or l 3 0 ∷ []) ≡ word_of l
+load4 l h = omega (arith, word4 l h)
+
+pub load8 : (l : List ℕ) → length l ≡ 8
+    → from_le_bytes w64 (get_or l 0 0 ∷ get_or l 1 0 ∷ get_or l 2 0 ∷ get_or l 3 0 ∷ get_or l 4 0 ∷ get_or l 5 0 ∷ get_or l 6 0 ∷ get_or l 7 0 ∷ []) ≡ word_of l
+load8 l h =
+    let low = word4 (get_or l 0 0 ∷ get_or l 1 0 ∷ get_or l 2 0 ∷ get_or l 3 0 ∷ []) refl in
+    let high = word4 (get_or l 4 0 ∷ get_or l 5 0 ∷ get_or l 6 0 ∷ get_or l 7 0 ∷ []) refl in
+    omega (arith, word8 l h, low, high)
+
+pub store4 : (x : ℕ) → to_le_bytes w32 x ≡ bytes_of 4 x
+unfolding bytes_of
+store4 x = list4 refl (omega arith) (omega arith) (omega arith)
+
+pub store8 : (x : ℕ) → to_le_bytes w64 x ≡ bytes_of 8 x
+unfolding bytes_of
+store8 x = ap₂ (λ (a b : List ℕ). a ++ b) (list4 refl (omega arith) (omega arith) (omega arith)) (list4 (omega arith) (omega arith) (omega arith) (omega arith))

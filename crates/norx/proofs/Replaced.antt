@@ -11,7 +11,7 @@ use Rattle.norx.specs.Norx.{Width, word32, word64, word_bytes, row_bytes, word_o
 use Rattle.norx.proofs.Xor.{twice_xor, run_xors}
 use Rattle.norx.proofs.Bytes.{Bytes, bytes_run, bytes_bytes_of}
 use Rattle.norx.proofs.Words.{length-bytes_of, length-bytes_of_row, word_bytes_lem, word_xors}
-use Rattle.norx.proofs.Owned.{Word, Words, four, Whole, four_rows}
+use Rattle.norx.specs.Whole.{Word, Words, four, Whole, four_rows}
 
 -- ---- runs of lists joined
 

@@ -9,7 +9,7 @@ use lib.Dec.{eqb}
 use Rattle.norx.specs.Norx.{Width, rate, State, row, rows, row_of, xor_row, f_of, p_of, on_diagonals, constants, keyed, start, xor_block, marked, entered}
 use Rattle.norx.specs.Turns.{after_turns}
 use Rattle.norx.specs.Stream.{entered_at, fed, ended}
-use Rattle.norx.proofs.Owned.{Whole, four, four_rows}
+use Rattle.norx.specs.Whole.{Whole, four, four_rows}
 
 pub data Shaped : State → Type 0 where
   shaped : {a b c d e f g h i j k m n o p q : ℕ} → Shaped (rows (row a b c d) (row e f g h) (row i j k m) (row n o p q))

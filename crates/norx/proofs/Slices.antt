@@ -3,9 +3,10 @@
 use mathlib.Core.Path.{◌≡◌, refl, sym, ap, ap₂, ◌∙◌}
 use mathlib.Core.List.{List, [], ◌∷◌, ◌++◌, append-nil, append_assoc}
 use Prim.Native.Nat.{ℕ, zero, suc, ◌+◌, ◌-◌, ◌*◌, ◌/◌, ◌<◌, ◌≤◌}
-use native.Mathlib.Nat.{zero-sub, sub-zero, suc-sub-suc, le_of_eq, div-add-mod', mod-lt, not-suc-le-zero, le_of_suc-le-suc}
+use native.Mathlib.Nat.{suc-mul, mul-le-mul_right, div-mul-le_self, zero-sub, sub-zero, suc-sub-suc, le_of_eq, div-add-mod', mod-lt, not-suc-le-zero, le_of_suc-le-suc}
 use native.Mathlib.Omega.{arith}
 use lib.ListN.{length, take, drop, replicate, length-append, length-drop, drop_of_length-le}
+use Rattle.norx.specs.Norx.{run}
 use Rattle.norx.specs.Turns.{put}
 use lib.Seq.{take_at, drop_at, drop-drop, take_all}
 
@@ -89,3 +90,28 @@ pub quarters_of : (n : ℕ) (l : List ℕ) {w x y z a b c d : List ℕ} → w �
     → put (put (put (put l 0 w n) n x n) (n + n) y n) (n + n + n) z n ≡ a ++ (b ++ (c ++ d))
 quarters_of n l {a = a} {b = b} {c = c} {d = d} e f g h ha hb hc hl =
     (λ k. put (put (put (put l 0 (e k) n) n (f k) n) (n + n) (g k) n) (n + n + n) (h k) n) ∙ quarters n l a b ha hb c hc d hl
+
+-- the same with the places as code counts them
+pub thirds_at : (n : ℕ) (l : List ℕ) {x y z a b c : List ℕ} → x ≡ a → y ≡ b → z ≡ c → length a ≡ n → length b ≡ n → length c ≡ n → length l ≡ n + n + n
+    → put (put (put l 0 x n) n y n) (2 * n) z n ≡ a ++ (b ++ c)
+thirds_at n l e f g ha hb hc hl =
+    let two : 2 * n ≡ n + n = omega arith in
+    rw two (thirds_of n l e f g ha hb hc hl)
+
+pub quarters_at : (n : ℕ) (l : List ℕ) {w x y z a b c d : List ℕ} → w ≡ a → x ≡ b → y ≡ c → z ≡ d → length a ≡ n → length b ≡ n → length c ≡ n → length l ≡ n + n + n + n
+    → put (put (put (put l 0 w n) n x n) (2 * n) y n) (3 * n) z n ≡ a ++ (b ++ (c ++ d))
+quarters_at n l e f g h ha hb hc hl =
+    let two : 2 * n ≡ n + n = omega arith in
+    let three : 3 * n ≡ n + n + n = omega arith in
+    rw (two, three) (quarters_of n l e f g h ha hb hc hl)
+
+-- the i'th run of n elements, at the place where code reads it
+pub run_at : (n a i : ℕ) (l : List ℕ) → a ≡ i * n → take n (drop a l) ≡ run n i l
+run_at n a i l e = ap (λ (k : ℕ). take n (drop k l)) e
+
+-- block i is within a length that has more blocks
+pub block_fits : (i n R : ℕ) → i < n / R → i * R + R ≤ n
+block_fits i n R h =
+    let upto : suc i * R ≤ n / R * R = mul-le-mul_right R (omega arith) in
+    let one : suc i * R ≡ i * R + R = suc-mul i R in
+    omega (arith, upto, one, div-mul-le_self n R)

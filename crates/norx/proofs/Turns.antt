@@ -19,7 +19,7 @@ use Rattle.norx.proofs.Rate.{length_run, rate_add}
 use Rattle.norx.specs.Blocks.{fulls}
 use Rattle.norx.specs.Turns.{put, after_turns, shown, after_all_turns, out_after_turns}
 use Rattle.norx.proofs.Slices.{put_next}
-use Rattle.norx.proofs.Owned.{four, Whole, four_rows}
+use Rattle.norx.specs.Whole.{four, Whole, four_rows}
 use Rattle.norx.proofs.Blocks.{after_suc, cipher_suc}
 use Rattle.norx.proofs.Messages.{readied, message_suc, state_suc}
 

@@ -6,3 +6,4 @@ pub mod Turns
 pub mod Rows
 pub mod Texts
 pub mod Runs
+pub mod Whole

@@ -1,6 +1,6 @@
 // The buffers that the works are done on, in one call and in pieces.
 use crate::job::{BODY, Line};
-use crate::{one_call, w32, w64};
+use crate::{one_call, pieces};
 use answers::Refusal;
 use std::alloc::{AllocError, Global};
 
@@ -14,11 +14,7 @@ pub(crate) struct Buffers {
 
 impl Buffers {
     pub(crate) fn new(alloc: Global, width: u32) -> Result<Buffers, AllocError> {
-        let n = if width == 32 {
-            w32::SEALED
-        } else {
-            w64::SEALED
-        };
+        let n = BODY + one_call::row(width);
         Ok(Buffers {
             body: vec![in alloc; 0x5a; BODY]?,
             sealed: vec![in alloc; 0; n]?,
@@ -32,9 +28,9 @@ impl Buffers {
 
     pub(crate) fn in_pieces(&mut self, line: Line) -> Result<(), Refusal> {
         if line.width == 32 {
-            w32::run(line, &self.body, &self.sealed, &mut self.out)
+            pieces::run::<u32>(line, &self.body, &self.sealed, &mut self.out)
         } else {
-            w64::run(line, &self.body, &self.sealed, &mut self.out)
+            pieces::run::<u64>(line, &self.body, &self.sealed, &mut self.out)
         }
     }
 

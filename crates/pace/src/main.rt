@@ -6,8 +6,7 @@ mod compare;
 mod job;
 mod measure;
 mod one_call;
-mod w32;
-mod w64;
+mod pieces;
 
 use buffers::Buffers;
 use compare::compare;

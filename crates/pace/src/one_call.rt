@@ -4,7 +4,7 @@ ghost use Rattle.std.specs.Prelude.{◌≤◌};
 use crate::job::{EDITION, KEY, Line, NONCE, Work};
 use answers::Refusal;
 use places::front::front;
-use rules::{w32, w64};
+use words::word::row_bytes;
 
 // The header is that of a session without a note.
 pub(crate) fn run(
@@ -31,9 +31,13 @@ pub(crate) fn run(
     }
 }
 
-// The bytes of a key and of a nonce.
-fn row(width: u32) -> usize
+// The bytes of a key, of a nonce and of a tag.
+pub(crate) fn row(width: u32) -> usize
     ensures { result ≤ 32 }
 {
-    if width == 32 { w32::ROW } else { w64::ROW }
+    if width == 32 {
+        row_bytes::<u32>()
+    } else {
+        row_bytes::<u64>()
+    }
 }

@@ -4,14 +4,13 @@ ghost use Rattle.places.specs.Terms.{front_of};
 
 use crate::terms::Edition;
 use rules::FRONT;
-use words::w64::store;
 
 // The job number and the revision, each as eight bytes, least first.
 pub fn front(edition: Edition) -> [u8; FRONT]
     ensures { result ≡ front_of edition }
 {
     let mut front = [0; FRONT];
-    front[..8].copy_from_slice(&store(edition.job));
-    front[8..].copy_from_slice(&store(edition.revision));
+    front[..8].copy_from_slice(&edition.job.to_le_bytes());
+    front[8..].copy_from_slice(&edition.revision.to_le_bytes());
     front
 }

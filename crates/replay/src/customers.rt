@@ -46,7 +46,7 @@ pub(crate) fn as_it_was(rt: &impl Print) -> io::Result<bool> {
     let mut sealed = [0; 80];
     let mut ran = [0; 48];
     let Job { nonce, body, .. } = SEVEN;
-    sealing::w64::seal(
+    sealing::at::seal::<u64>(
         ROUNDS,
         &KEY,
         &nonce,
@@ -55,7 +55,7 @@ pub(crate) fn as_it_was(rt: &impl Print) -> io::Result<bool> {
         &TRAILER,
         &mut sealed,
     );
-    let opened = sealing::w64::open(
+    let opened = sealing::at::open::<u64>(
         ROUNDS,
         &KEY,
         &nonce,

@@ -4,9 +4,9 @@ use crate::told::{Answered, OnOneLine};
 use crate::tool::Tool;
 use places::terms::Edition;
 use rules::SEGMENT;
-use rules::w64::TAG;
-use segments::w64;
+use segments::at;
 use std::io;
+use words::word::row_bytes;
 
 // The line of which the first segment is made.
 const LINE: [u8; 15] = *b"G1 X80.0 Z-4.0\n";
@@ -78,8 +78,8 @@ fn seal(
     body: &[u8],
     name: &str,
 ) -> io::Result<Vec<u8>> {
-    let mut out = vec![in rt.alloc(); 0; body.len().saturating_add(TAG)]?;
-    let sealed = w64::seal(
+    let mut out = vec![in rt.alloc(); 0; body.len().saturating_add(row_bytes::<u64>())]?;
+    let sealed = at::seal::<u64>(
         &KEY,
         nonce,
         terms(edition),

@@ -3,12 +3,12 @@ use crate::job::{KEY, terms};
 use crate::told::{Answered, Named, Said};
 use places::Label;
 use places::terms::Edition;
-use session64::check::Checking;
+use session::check::Checking;
 use std::io;
 
 #[derive(Clone, Copy)]
 pub(crate) struct Gateway {
-    session: Checking,
+    session: Checking<u64>,
 }
 
 impl Gateway {
@@ -56,7 +56,7 @@ impl Gateway {
 
     // The bytes of each part that the session has accepted.
     pub(crate) fn say_accepted(&self, rt: &impl Print) -> io::Result<()> {
-        let s = self.session;
+        let s = self.session.0.place;
         println!(rt; "note {}, body {}, trailer {}", s.note, s.body, s.trailer)
     }
 }

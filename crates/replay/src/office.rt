@@ -4,7 +4,7 @@ use crate::told::Named;
 use answers::number;
 use places::Part;
 use places::terms::Edition;
-use session64::seal::Sealing;
+use session::seal::Sealing;
 use std::io;
 
 // What a job is sealed to.
@@ -20,7 +20,7 @@ pub(crate) fn seal(rt: &impl Print, job: Job) -> io::Result<Sealed> {
     let mut text = [0; 48];
     let mut tag = [0; 32];
     let of = job.edition;
-    let step = Sealing::start(&KEY, &job.nonce, terms(of));
+    let step = Sealing::<u64>::start(&KEY, &job.nonce, terms(of));
     print!(rt; "  {}: start {}", Named(of), number(step.answer))?;
     let s = piece(rt, step.session, ", note ", of, Part::Note, &NOTE, &mut [])?;
     let s = piece(rt, s, ", body ", of, Part::Body, &job.body, &mut text)?;
@@ -31,13 +31,13 @@ pub(crate) fn seal(rt: &impl Print, job: Job) -> io::Result<Sealed> {
 
 fn piece(
     rt: &impl Print,
-    s: Sealing,
+    s: Sealing<u64>,
     call: &str,
     edition: Edition,
     part: Part,
     bytes: &[u8],
     out: &mut [u8],
-) -> io::Result<Sealing> {
+) -> io::Result<Sealing<u64>> {
     let step = s.piece(label(edition, part, 0), bytes, out);
     print!(rt; "{call}{}", number(step.answer))?;
     Ok(step.session)

@@ -2,9 +2,9 @@
 use crate::job::{KEY, NOTE, terms};
 use crate::told::{Answered, Named};
 use places::terms::Edition;
-use rules::w64::TAG;
-use segments::receiver64::Receiver;
+use segments::receiver::Receiver;
 use std::io;
+use words::word::row_bytes;
 
 // What stands in an output before a call, so that one that is left alone can be told from zeros.
 const UNTOUCHED: u8 = 0xa5;
@@ -12,7 +12,7 @@ const UNTOUCHED: u8 = 0xa5;
 // The receiver, and whether every segment has been served as it must.
 #[derive(Clone, Copy)]
 pub(crate) struct Tool {
-    receiver: Receiver,
+    receiver: Receiver<u64>,
     right: bool,
 }
 
@@ -40,7 +40,9 @@ impl Tool {
         name: &str,
     ) -> io::Result<()> {
         let called = if last { "last segment" } else { "segment" };
-        let mut out = vec![in rt.alloc(); UNTOUCHED; sealed.len().saturating_sub(TAG)]?;
+        let mut out = vec![in rt.alloc(); UNTOUCHED; sealed
+            .len()
+            .saturating_sub(row_bytes::<u64>())]?;
         let step = self.receiver.take(&NOTE, last, sealed, &mut out);
         self.receiver = step.receiver;
         print!(rt; "  {called}, {name} -> {}; ", Answered(step.answer))?;

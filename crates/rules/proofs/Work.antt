@@ -1,6 +1,7 @@
 -- How many times P runs in a call: in a part, in all of them, the largest number within the limits, and what is reported.
 -- Assumes nothing.
 use mathlib.Core.Path.{◌≡◌, refl, sym, ap, ap₂, ◌∙◌}
+use mathlib.Core.Bool.{true, false, cond}
 use mathlib.Core.Logic.{◌≢◌, ◌⊎◌, inl, ⊎_elim}
 use mathlib.Core.List.{List}
 use Prim.Native.Nat.{ℕ, ◌+◌, ◌/◌, ◌≤◌}
@@ -9,11 +10,12 @@ use borrow.Author.Tests.{eq-eqb, ne_eqb, eqb-true, eqb-false}
 use lib.Dec.{eqb}
 use lib.ListN.{length}
 use Rattle.norx.specs.Norx.{Width, word32, word64}
-use Rattle.norx.specs.Runs.{part_runs, sealing_runs}
+use Rattle.norx.specs.Runs.{part_runs, runs_by, sealing_runs}
 use Rattle.norx.proofs.Bytes.{zeros, length-zeros}
 use Rattle.answers.specs.Answers.{Answer, number_of, runs_with}
 use Rattle.answers.proofs.Tests.{either, cond_true, cond_false}
 use Rattle.answers.proofs.Runs.{reported_with, unreported_with, same_report, report_most}
+use Rattle.rules.specs.Rules.{within}
 use Rattle.rules.specs.Limits.{widths_length, PartLimits, SealLimits}
 use Rattle.rules.specs.OneCall.{seal_answer}
 use Rattle.rules.specs.Runs.{runs_within, seal_runs, most_runs, SealingOf, LargestRuns, ReportsRuns}
@@ -34,6 +36,18 @@ part_some R n h = sym (cond_false (eqb n 0) 0 (n / R + 1) (ne_eqb n 0 h))
 pub part_most : (R n most : ℕ) → n / R ≤ most → part_runs R n ≤ most + 1
 part_most R n most h =
     ⊎_elim (λ e. omega (arith, part_none R n (eqb-true n 0 e))) (λ e. omega (arith, part_some R n (eqb-false n 0 e))) (either (eqb n 0))
+
+-- ---- all of them
+
+module _ (R header body trailer : ℕ) where
+  pub runs_none : within header body trailer ≡ false → 0 ≡ cond (within header body trailer) (runs_by R header body trailer) 0
+  runs_none h = sym (cond_false (within header body trailer) (runs_by R header body trailer) 0 h)
+
+  pub runs_some : within header body trailer ≡ true → {a b c : ℕ} → a ≡ part_runs R header → b ≡ part_runs R body → c ≡ part_runs R trailer
+      → 3 + a + b + c ≡ cond (within header body trailer) (runs_by R header body trailer) 0
+  runs_some h {a} {b} {c} e f g =
+      let sum : 3 + a + b + c ≡ runs_by R header body trailer = omega (arith, e, f, g) in
+      sum ∙ sym (cond_true (within header body trailer) (runs_by R header body trailer) 0 h)
 
 -- ---- the largest number
 

@@ -7,7 +7,7 @@ use super::{LONGEST_BODY, LONGEST_HEADER, LONGEST_TRAILER, lengths_ok, rounds_ok
 use answers::{Refusal, need};
 
 // Whether no part passes its limit.
-pub(crate) fn within(header: usize, body: usize, trailer: usize) -> bool
+pub fn within(header: usize, body: usize, trailer: usize) -> bool
     ensures { result ≡ within_of header body trailer }
 {
     (header <= LONGEST_HEADER) & (body <= LONGEST_BODY) & (trailer <= LONGEST_TRAILER)

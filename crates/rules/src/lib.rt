@@ -1,13 +1,10 @@
-// The numbers that rule every call, each of them once; w32 and w64 have those of a width, calls has what they decide, and runs how much work a call is.
+// The numbers that rule every call, each of them once, and in calls what they decide; those of a width are in words.
 #![tactic(auto)]
 
 ghost use Rattle.std.specs.Prelude.{◌≡◌};
 ghost use Rattle.rules.specs.Rules.{rounds_ok, lengths_ok};
 
 pub mod calls;
-mod runs;
-pub mod w32;
-pub mod w64;
 
 // The longest header, body and trailer, in bytes.
 pub const LONGEST_HEADER: usize = 65536;

@@ -16,6 +16,10 @@ use Rattle.rules.specs.Rules.{tag_bytes}
 use Rattle.rules.specs.Calls.{answer_of, out_of}
 use Rattle.sealing.specs.Bodies.{tag_from, sealed_from, opened_from}
 
+-- the words of key or nonce where they have the length of a row, as code loads them
+abbrev pub loaded : Width → List ℕ → List ℕ
+loaded w b = cond (eqb (length b) (row_bytes w)) (row_of w b) (replicate 4 0)
+
 module _ (w : Width) (l : ℕ) (key nonce header text trailer : List ℕ) where
   pub sealed_whole : sealed_from w l (tag_bits w) (row_of w key) (before_body w l (tag_bits w) key nonce header) text trailer ≡ sealed w l (tag_bits w) key nonce header text trailer
   unfolding sealed tag sealed_from tag_from
@@ -25,7 +29,7 @@ module _ (w : Width) (l : ℕ) (key nonce header text trailer : List ℕ) where
   unfolding opened recovered tag opened_from tag_from
   opened_whole = refl
 
-  module _ (key_long : length key ≡ row_bytes w) {k : List ℕ} {s : State} (hk : k ≡ cond (eqb (length key) (row_bytes w)) (row_of w key) (replicate 4 0))
+  module _ (key_long : length key ≡ row_bytes w) {k : List ℕ} {s : State} (hk : k ≡ loaded w key)
       (hs : s ≡ after_part w l header_mark (start w l (tag_bits w) k (row_of w nonce)) header) where
     key_is : k ≡ row_of w key
     key_is = cond_equal (row_of w key) (replicate 4 0) (length key) (row_bytes w) key_long hk

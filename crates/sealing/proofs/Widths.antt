@@ -1,33 +1,16 @@
--- The width that a number means, and the promises at it.
+-- The promises at a width that is given as a number which means it.
 -- Assumes nothing.
 use mathlib.Core.Path.{◌≡◌, refl, sym, ap, ◌∙◌}
 use mathlib.Core.Logic.{◌≢◌}
 use mathlib.Core.List.{List}
-use mathlib.Core.Option.{none, some}
 use Prim.Native.Nat.{ℕ}
 use native.Mathlib.Omega.{arith}
-use borrow.Author.Tests.{eq-eqb, ne_eqb}
 use Rattle.norx.specs.Norx.{Width, word32, word64, bits}
 use Rattle.answers.specs.declared.Outcome.{Outcome}
 use Rattle.answers.specs.Answers.{number_of}
 use Rattle.rules.specs.OneCall.{seal_answer, open_answer}
-use Rattle.sealing.specs.Widths.{width_of}
 use Rattle.sealing.specs.Promises.{LeavesBytes, Seals, Opens, AtWidth, SealsAt, OpensAt}
 use Rattle.sealing.proofs.Demand.{sealing_not, opening_not}
-
-pub width_32 : (n : ℕ) → n ≡ 32 → width_of n ≡ some word32
-unfolding width_of
-width_32 n h = rw (eq-eqb n 32 h)
-
-pub width_64 : (n : ℕ) → (n ≡ 32 → ⊥) → n ≡ 64 → width_of n ≡ some word64
-unfolding width_of
-width_64 n g h = rw (ne_eqb n 32 g, eq-eqb n 64 h)
-
-pub width_none : (n : ℕ) → (n ≡ 32 → ⊥) → (n ≡ 64 → ⊥) → width_of n ≡ none
-unfolding width_of
-width_none n g h = rw (ne_eqb n 32 g, ne_eqb n 64 h)
-
--- ---- the promises at a width number
 
 one_width : (w v : Width) → bits w ≡ bits v → w ≡ v
 one_width word32 word32 e = refl
@@ -48,15 +31,6 @@ module _ (Promise : Width → Type 0) (width : ℕ) (before : List ℕ) where
     no_width = (λ z. absurd (not-11 z), λ z. absurd (means_one w width e z.0 z.1));
     no_run = λ z. absurd (not-11 z);
     leaves = leaves;
-  }
-
-  -- where it means none: 11, no run of P, and every byte as it was
-  pub at_none : width ≢ 32 → width ≢ 64 → AtWidth Promise width before 11 0 before
-  at_none g h = record {
-    at_width = λ w e. absurd (means_one w width e g h);
-    no_width = (λ z. (g, h), λ z. refl);
-    no_run = λ z. refl;
-    leaves = record { kept = λ z y. refl; zeroed = λ z. absurd (omega arith) };
   }
 
 module _ (width l : ℕ) (key nonce header text trailer before : List ℕ) {r : Outcome} {after : List ℕ} where

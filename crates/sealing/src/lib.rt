@@ -1,4 +1,4 @@
-// Sealing and opening in one call: at each width under the same names, and at a width that is given as a number.
+// Sealing and opening in one call: at each width, and at a width that is given as a number.
 #![tactic(auto)]
 
 ghost use Rattle.std.specs.Prelude.{◌≡◌};
@@ -8,12 +8,11 @@ ghost use Rattle.sealing.specs.Promises.{SealsAt, OpensAt};
 
 use answers::{Outcome, Refusal};
 
-pub mod body32;
-pub mod body64;
-pub mod w32;
-pub mod w64;
+pub mod at;
+pub mod body;
 
 // Seals a body at the width given as a number; 11, and nothing changed, where the number is not 32 or 64.
+#[tactic(auto, unfolding(crate::specs::Widths::width_of, crate::specs::Widths::seal_answer_at, crate::specs::Widths::seal_runs_at, crate::specs::Widths::seal_out_at))]
 pub fn seal(
     width: u32,
     rounds: u32,
@@ -29,19 +28,18 @@ pub fn seal(
     ensures output { out.new ≡ seal_out_at width rounds key.now nonce.now header.now body.now trailer.now out.old }
     ensures promise { SealsAt width rounds key.now nonce.now header.now body.now trailer.now out.old (number_of result.answer) result.runs out.new }
 {
-    if width == 32 {
-        return w32::seal(rounds, key, nonce, header, body, trailer, out);
-    }
-    if width == 64 {
-        return w64::seal(rounds, key, nonce, header, body, trailer, out);
-    }
-    Outcome {
-        answer: Err(Refusal::WidthNumber),
-        runs: 0,
+    match width {
+        32 => at::seal::<u32>(rounds, key, nonce, header, body, trailer, out),
+        64 => at::seal::<u64>(rounds, key, nonce, header, body, trailer, out),
+        _ => Outcome {
+            answer: Err(Refusal::WidthNumber),
+            runs: 0,
+        },
     }
 }
 
 // Opens a sealed text at the width given as a number; 11, and nothing changed, where the number is not 32 or 64.
+#[tactic(auto, unfolding(crate::specs::Widths::width_of, crate::specs::Widths::open_answer_at, crate::specs::Widths::open_runs_at, crate::specs::Widths::open_out_at))]
 pub fn open(
     width: u32,
     rounds: u32,
@@ -57,14 +55,12 @@ pub fn open(
     ensures output { out.new ≡ open_out_at width rounds key.now nonce.now header.now sealed.now trailer.now out.old }
     ensures promise { OpensAt width rounds key.now nonce.now header.now sealed.now trailer.now out.old (number_of result.answer) result.runs out.new }
 {
-    if width == 32 {
-        return w32::open(rounds, key, nonce, header, sealed, trailer, out);
-    }
-    if width == 64 {
-        return w64::open(rounds, key, nonce, header, sealed, trailer, out);
-    }
-    Outcome {
-        answer: Err(Refusal::WidthNumber),
-        runs: 0,
+    match width {
+        32 => at::open::<u32>(rounds, key, nonce, header, sealed, trailer, out),
+        64 => at::open::<u64>(rounds, key, nonce, header, sealed, trailer, out),
+        _ => Outcome {
+            answer: Err(Refusal::WidthNumber),
+            runs: 0,
+        },
     }
 }

@@ -9,8 +9,10 @@ use borrow.Author.Tests.{ltb-true}
 use lib.Dec.{ltb, leb, eqb}
 use lib.ListN.{length, length-append}
 use Rattle.std.specs.Prelude.{Ok, ⊤}
+use Rattle.answers.specs.declared.Refusal.{Refusal}
 use Rattle.norx.specs.Norx.{Width, row_bytes, tag_bits, bytes_of, sealed}
 use Rattle.norx.specs.Front.{eight_bytes, front_bytes}
+use Rattle.norx.proofs.Widths.{tag_is_row}
 use Rattle.answers.specs.declared.Refusal.TheVariants.{SegmentLength, AfterLast}
 use Rattle.answers.specs.Answers.{Answer, done_of, need_of}
 use Rattle.answers.proofs.Tests.{cond_true, cond_false}
@@ -55,14 +57,16 @@ module _ (w : Width) (key nonce : List ℕ) (T : Terms) (note : List ℕ) (i : �
   abbrev header : List ℕ
   header = segment_header T note
 
-  -- the code's chain is the definition's
-  pub segment_chain : {one r : Answer} {ok : Bool}
-      → one ≡ seal_checks (row_bytes w) (tag_bytes w) T.rounds (length key) (length nonce + 8) (front_bytes + length note) (length text) 0 (length out)
+  -- the code's chain is the definition's; n is the length of a row, and of a tag
+  pub segment_chain : {n : ℕ} {one r : Answer} {ok : Bool} → n ≡ row_bytes w
+      → one ≡ seal_checks n n T.rounds (length key) (length nonce + 8) (front_bytes + length note) (length text) 0 (length out)
       → ok ≡ segment_ok i last (length text) → r ≡ need_of ok SegmentLength one → r ≡ segment_answer w key nonce T note i last text out
   unfolding segment_answer seal_answer
-  segment_chain e f g =
-      let as_one_call = e ∙ ap₂ (λ (n h : ℕ). seal_checks (row_bytes w) (tag_bytes w) T.rounds (length key) n h (length text) 0 (length out))
-      (sym (nonce_long nonce i last)) (sym (header_long T note)) in
+  segment_chain row e f g =
+      let tag = row ∙ sym (tag_is_row w) in
+      let nonce' = sym (nonce_long nonce i last) in
+      let header' = sym (header_long T note) in
+      let as_one_call = e ∙ (λ j. seal_checks (row j) (tag j) T.rounds (length key) (nonce' j) (header' j) (length text) 0 (length out)) in
       g ∙ ap₂ (λ (a : Bool) (b : Answer). need_of a SegmentLength b) f as_one_call
 
   pub segment_passed : done_of (segment_answer w key nonce T note i last text out) ≡ true
@@ -96,13 +100,32 @@ module _ (w : Width) (key nonce : List ℕ) (T : Terms) (note : List ℕ) (i : �
 
 -- ---- opening
 
--- links ahead of a call whose own checks leave it to the tag
+-- links ahead of a call whose own checks refuse or leave it to the tag
+links_answer : (b c : Bool) (x y : Refusal) (one by_tag : Answer) → done_of (need_of b x (need_of c y one)) ≡ false
+    → need_of b x (need_of c y (cond (done_of one) by_tag one)) ≡ need_of b x (need_of c y one)
+unfolding need_of
+links_answer true true x y one by_tag e = cond_false _ _ _ e
+links_answer true false x y one by_tag e = refl
+links_answer false c x y one by_tag e = refl
+
+links_out : (b c : Bool) (x y : Refusal) (one : Answer) (t o : List ℕ) → done_of (need_of b x (need_of c y one)) ≡ false → cond (b && c) (cond (done_of one) t o) o ≡ o
+unfolding need_of
+links_out true true x y one t o e = cond_false _ _ _ e
+links_out true false x y one t o e = refl
+links_out false c x y one t o e = refl
+
 links_passed : (b c : Bool) (one by_tag : Answer) (t o : List ℕ) → b ≡ true → c ≡ true → done_of one ≡ true
     → (need_of b AfterLast (need_of c SegmentLength (cond (done_of one) by_tag one)) ≡ by_tag) × (cond (b && c) (cond (done_of one) t o) o ≡ t)
 unfolding need_of
 links_passed true true one by_tag t o p q r = (cond_true _ _ _ r, cond_true _ _ _ r)
 links_passed true false one by_tag t o p q r = absurd (false≢true q)
 links_passed false c one by_tag t o p q r = absurd (false≢true p)
+
+links_stop : (b c : Bool) (t o : List ℕ) {a : Answer} → done_of a ≡ false → a ≡ need_of b AfterLast (need_of c SegmentLength (Ok tt)) → o ≡ cond (b && c) t o
+unfolding need_of
+links_stop true true t o refuses e = absurd (false≢true (sym refuses ∙ ap done_of e))
+links_stop true false t o refuses e = refl
+links_stop false c t o refuses e = refl
 
 -- where the links refuse nothing, what comes behind them decides
 pub links_go_on : (W : Waiting) (last : Bool) (tag n : ℕ) {x : ⊤} {given rest : Answer} → Ok x ≡ take_links W last tag n (Ok tt) → given ≡ rest → given ≡ take_links W last tag n rest
@@ -129,14 +152,22 @@ module _ (w : Width) (key nonce : List ℕ) (T : Terms) (note : List ℕ) (W : W
   numbers = take_links W last (tag_bytes w) (length text) one_call
 
   -- the code's chain is the definition's
-  pub take_chain : {one r : Answer}
-      → one ≡ open_checks (row_bytes w) (tag_bytes w) T.rounds (length key) (length nonce + 8) (front_bytes + length note) (length text) 0 (length out)
-      → r ≡ take_links W last (tag_bytes w) (length text) one
+  pub take_chain : {n : ℕ} {one r : Answer} → n ≡ row_bytes w
+      → one ≡ open_checks n n T.rounds (length key) (length nonce + 8) (front_bytes + length note) (length text) 0 (length out)
+      → r ≡ take_links W last n (length text) one
       → r ≡ take_links W last (tag_bytes w) (length text) (checked w T.rounds key (segment_nonce nonce W.index last) (segment_header T note) text [] out)
-  take_chain e g =
-      let as_one_call = e ∙ ap₂ (λ (n h : ℕ). open_checks (row_bytes w) (tag_bytes w) T.rounds (length key) n h (length text) 0 (length out))
-      (sym (nonce_long nonce W.index last)) (sym (header_long T note)) in
-      g ∙ ap (take_links W last (tag_bytes w) (length text)) as_one_call
+  take_chain row e g =
+      let tag = row ∙ sym (tag_is_row w) in
+      let nonce' = sym (nonce_long nonce W.index last) in
+      let header' = sym (header_long T note) in
+      let as_one_call = e ∙ (λ j. open_checks (row j) (tag j) T.rounds (length key) (nonce' j) (header' j) (length text) 0 (length out)) in
+      g ∙ (λ j. take_links W last (tag j) (length text) (as_one_call j))
+
+  -- where the links refuse, the output stays as it was
+  pub links_kept : {n : ℕ} {a : Answer} → n ≡ row_bytes w → done_of a ≡ false → a ≡ take_links W last n (length text) (Ok tt) → out ≡ take_out w key nonce T note W last text out
+  unfolding take_links take_out
+  links_kept row refuses e =
+      let tag = row ∙ sym (tag_is_row w) in links_stop _ _ _ out refuses (e ∙ (λ j. take_links W last (tag j) (length text) (Ok tt)))
 
   -- what is known where no number refuses
   pub take_passed : done_of numbers ≡ true → ((not W.complete ≡ true) × (sealed_ok W.index last (tag_bytes w) (length text) ≡ true)) × (done_of one_call ≡ true)
@@ -154,7 +185,7 @@ module _ (w : Width) (key nonce : List ℕ) (T : Terms) (note : List ℕ) (W : W
         open_rounds (row_bytes w) (tag_bytes w) T.rounds (length key) (length its_own) (length its_header) (length text) 0 (length out) one,
       )
 
-  -- the tag decides where no number refuses
+  -- the tag decides where no number refuses, and else their answer stands and the output as it was
   pub take_tag : done_of numbers ≡ true
       → (take_answer w key nonce T note W last text out ≡ tag_answer w T.rounds key its_own its_header text [] out)
       × (take_out w key nonce T note W last text out ≡ tag_out w T.rounds key its_own its_header text [] out)
@@ -162,6 +193,13 @@ module _ (w : Width) (key nonce : List ℕ) (T : Terms) (note : List ℕ) (W : W
   take_tag e =
       let p = take_passed e in
       links_passed (not W.complete) (sealed_ok W.index last (tag_bytes w) (length text)) one_call _ _ _ p.0.0 p.0.1 p.1
+
+  pub take_numbers : done_of numbers ≡ false → (take_answer w key nonce T note W last text out ≡ numbers) × (take_out w key nonce T note W last text out ≡ out)
+  unfolding take_answer take_out take_links open_answer open_out
+  take_numbers e = (
+    links_answer (not W.complete) (sealed_ok W.index last (tag_bytes w) (length text)) _ _ one_call _ e,
+    links_out (not W.complete) (sealed_ok W.index last (tag_bytes w) (length text)) _ _ one_call _ _ e,
+  )
 
   -- a segment that is taken has an index below the most
   pub take_below : done_of (take_answer w key nonce T note W last text out) ≡ true → W.index < most_segments

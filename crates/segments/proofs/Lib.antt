@@ -9,5 +9,4 @@ pub mod Taking
 pub mod Received
 pub mod WholeWay
 pub mod Nonces
-pub mod Structs
 pub mod Unique

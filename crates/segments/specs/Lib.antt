@@ -1,6 +1,5 @@
 pub mod Segments
 pub mod Receivers
-pub mod Structs
 pub mod Rule
 pub mod Runs
 pub mod Promises

@@ -1,6 +1,6 @@
--- What each call on a receiver gives, on all inputs. Receiving is what the receivers of both widths have in them.
+-- What each call on a receiver gives, on all inputs. A contract sees a receiver of either width as a Receiving.
 -- Assumes nothing.
-use Rattle.std.specs.Prelude.{ℕ, ◌+◌, ◌-◌, Bool, cond, List, length, replicate}
+use Rattle.std.specs.Prelude.{ℕ, ◌+◌, ◌-◌, Bool, cond, List, ◌++◌, length, replicate}
 use Rattle.norx.specs.Norx.{Width, row_bytes}
 use Rattle.answers.specs.Answers.{Answer, done_of}
 use Rattle.places.specs.declared.terms.Terms.{Terms}
@@ -15,6 +15,10 @@ pub record Receiving : Type 0 where
   pub nonce : List ℕ
   pub terms : Terms
   pub waiting : Waiting
+
+-- a text in front of zeros, m bytes in all
+abbrev pub filled : ℕ → List ℕ → List ℕ
+filled m t = t ++ replicate (m - length t) 0
 
 -- the receiver of a refused start: every number in it is zero
 abbrev pub no_receiving : Width → Receiving

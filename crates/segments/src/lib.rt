@@ -11,10 +11,11 @@ use answers::{Outcome, Refusal};
 use cutting::Waiting;
 use places::terms::Terms;
 
-pub mod receiver32;
-pub mod receiver64;
-pub mod w32;
-pub mod w64;
+pub mod at;
+pub mod receiver;
+
+// The bytes of a row at 64-bit words, the longer ones.
+pub(crate) const LONGEST_ROW: usize = 32;
 
 // Lays one text behind the other into an output as long as both.
 pub(crate) fn join(first: &[u8], second: &[u8], out: &mut [u8])
@@ -22,8 +23,8 @@ pub(crate) fn join(first: &[u8], second: &[u8], out: &mut [u8])
     ensures { out.new ≡ first.now ++ second.now }
 {
     let n = first.len();
-    texts::copy(first, &mut out[0..n]);
-    texts::copy(second, &mut out[n..]);
+    out[..n].copy_from_slice(first);
+    out[n..].copy_from_slice(second);
 }
 
 // Where a receiver waits after an answer: for the next segment where that is 0, and complete where the one before it was the last.
@@ -42,6 +43,7 @@ pub(crate) fn next(waiting: Waiting, answer: Result<(), Refusal>, last: bool) ->
 }
 
 // Seals a segment at the width given as a number; 11, and nothing changed, where the number is not 32 or 64.
+#[tactic(auto, unfolding(sealing::specs::Widths::width_of, crate::specs::Segments::segment_answer_at, crate::specs::Segments::segment_runs_at, crate::specs::Segments::segment_out_at))]
 pub fn seal(
     width: u32,
     key: &[u8],
@@ -57,19 +59,18 @@ pub fn seal(
     ensures runs { result.runs ≡ segment_runs_at width key.now nonce.now terms note.now index last body.now out.old }
     ensures output { out.new ≡ segment_out_at width key.now nonce.now terms note.now index last body.now out.old }
 {
-    if width == 32 {
-        return w32::seal(key, nonce, terms, note, index, last, body, out);
-    }
-    if width == 64 {
-        return w64::seal(key, nonce, terms, note, index, last, body, out);
-    }
-    Outcome {
-        answer: Err(Refusal::WidthNumber),
-        runs: 0,
+    match width {
+        32 => at::seal::<u32>(key, nonce, terms, note, index, last, body, out),
+        64 => at::seal::<u64>(key, nonce, terms, note, index, last, body, out),
+        _ => Outcome {
+            answer: Err(Refusal::WidthNumber),
+            runs: 0,
+        },
     }
 }
 
 // Opens the segment that a receiver waits for, at the width given as a number; 11, and nothing changed, where the number is not 32 or 64.
+#[tactic(auto, unfolding(sealing::specs::Widths::width_of, crate::specs::Segments::take_answer_at, crate::specs::Segments::take_runs_at, crate::specs::Segments::take_out_at))]
 pub fn open(
     width: u32,
     key: &[u8],
@@ -85,14 +86,12 @@ pub fn open(
     ensures runs { result.runs ≡ take_runs_at width key.now nonce.now terms note.now waiting last sealed.now out.old }
     ensures output { out.new ≡ take_out_at width key.now nonce.now terms note.now waiting last sealed.now out.old }
 {
-    if width == 32 {
-        return w32::open(key, nonce, terms, note, waiting, last, sealed, out);
-    }
-    if width == 64 {
-        return w64::open(key, nonce, terms, note, waiting, last, sealed, out);
-    }
-    Outcome {
-        answer: Err(Refusal::WidthNumber),
-        runs: 0,
+    match width {
+        32 => at::open::<u32>(key, nonce, terms, note, waiting, last, sealed, out),
+        64 => at::open::<u64>(key, nonce, terms, note, waiting, last, sealed, out),
+        _ => Outcome {
+            answer: Err(Refusal::WidthNumber),
+            runs: 0,
+        },
     }
 }

@@ -17,11 +17,10 @@ use Rattle.places.specs.declared.Place.{Place}
 use Rattle.places.specs.Terms.{front_of}
 use Rattle.places.specs.Places.{fresh_place, piece_answer, moved, Accepted}
 use Rattle.places.proofs.Accepts.{accepted as accepts}
-use Rattle.session.specs.Sessions.{rows_of, flat_of, taken_at, exact_of, Kind, state_of, fresh_of, piece_answer_of, taken_of, piece_of}
+use Rattle.session.specs.Sessions.{taken_at, exact_of, Kind, state_of, fresh_of, piece_answer_of, taken_of, piece_of}
 use Rattle.session.specs.Offered.{Piece, is_accepted, only, joined, last_part, place_in, start_state, state_in, held, held_by}
 use Rattle.session.proofs.Pieces.{after_piece, after_all, accepted}
 use Rattle.session.proofs.Refused.{Lawful, answer_to, accepted_answer, refused_session}
-use Rattle.session.proofs.Flat.{rows_flat, shaped_state}
 use Rattle.session.proofs.Joining.{moved_place, moved_state}
 
 module _ (K : Kind) (L : Lawful K) where
@@ -33,7 +32,7 @@ module _ (K : Kind) (L : Lawful K) where
     place_held part n b t = L.placed _ _ _
 
     pub state_held : (part : Part) (n b t : List ℕ) → state_of K (at part n b t) ≡ state_in K key nonce T part n b t
-    state_held part n b t = ap rows_of (L.worded _ _ _) ∙ rows_flat _ (shaped_state K key nonce T part n b t)
+    state_held part n b t = L.stated _ _ _
 
     pub answer_held : (part : Part) (n b t : List ℕ) (q : Piece)
         → answer_to K L (at part n b t) q
@@ -62,9 +61,9 @@ module _ (K : Kind) (L : Lawful K) where
         let x : List ℕ = q.bytes in
         let p : Place = place_in T part n b t in
         let key_is : K.key (at part n b t) ≡ row_of K.width key = L.keyed _ _ _ in
-        ap₂ (λ (y : Place) (z : List ℕ). K.make (moved y k (length x)) (flat_of (taken_at K.width y K.way k x (state_of K (at part n b t)))) z) (place_held part n b t) key_is
-        ∙ ap (λ (s : State). K.make (moved p k (length x)) (flat_of (taken_at K.width p K.way k x s)) (row_of K.width key)) (state_held part n b t)
-        ∙ ap₂ (λ (y : Place) (s : State). K.make y (flat_of s) (row_of K.width key))
+        ap₂ (λ (y : Place) (z : List ℕ). K.make (moved y k (length x)) (taken_at K.width y K.way k x (state_of K (at part n b t))) z) (place_held part n b t) key_is
+        ∙ ap (λ (s : State). K.make (moved p k (length x)) (taken_at K.width p K.way k x s) (row_of K.width key)) (state_held part n b t)
+        ∙ ap₂ (λ (y : Place) (s : State). K.make y s (row_of K.width key))
         (moved_place T part n b t k x) (moved_state K key nonce T part n b t k x a.sound a.onward)
 
     pub one_accepted : (part : Part) (n b t : List ℕ) (q : Piece) → is_accepted K (at part n b t) q ≡ true → after_piece K (at part n b t) q ≡ and_piece part n b t q
@@ -130,7 +129,7 @@ module _ (K : Kind) (L : Lawful K) where
     pub fresh_held : fresh_of K key nonce T ≡ at Note [] [] []
     unfolding fresh_of
     fresh_held =
-        ap (λ (x : List ℕ). K.make (fresh_place T) (flat_of (fed K.width T.rounds header_mark (start_state K key nonce T) 0 x)) (row_of K.width key))
+        ap (λ (x : List ℕ). K.make (fresh_place T) (fed K.width T.rounds header_mark (start_state K key nonce T) 0 x) (row_of K.width key))
         (sym (append-nil (front_of T.edition)))
 
     -- from a start: the session of the accepted pieces joined part by part

@@ -1,11 +1,10 @@
-pub mod Parts
+pub mod InParts
 pub mod Steps
 pub mod Pieces
 pub mod Sound
 pub mod Refused
 pub mod Calls
 pub mod Joining
-pub mod Flat
 pub mod Held
 pub mod Wrote
 pub mod Whole
@@ -18,3 +17,6 @@ pub mod OneOpening
 pub mod Demand
 pub mod Largest
 pub mod Ran
+pub mod Wrapped
+pub mod Kept
+pub mod Unique

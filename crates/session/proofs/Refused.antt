@@ -8,7 +8,7 @@ use Prim.Native.Nat.{ℕ}
 use native.Mathlib.Omega.{arith}
 use lib.ListN.{length}
 use Rattle.std.specs.Prelude.{Ok, Err}
-use Rattle.norx.specs.Norx.{tag_bits, same}
+use Rattle.norx.specs.Norx.{State, tag_bits, same}
 use Rattle.answers.specs.declared.Refusal.TheVariants.{NotSound, TagDiffers}
 use Rattle.answers.specs.Answers.{Answer, number_of, done_of, need_of}
 use Rattle.answers.proofs.Tests.{either, cond_true, cond_false}
@@ -26,9 +26,9 @@ use Rattle.session.proofs.Sound.{sound_from, sound_to, not_sound}
 
 -- a kind is lawful where what it puts together it takes apart again, and its tag is the width's
 pub record Lawful (K : Kind) : Type 0 where
-  pub placed : (p : Place) (w k : List ℕ) → K.place (K.make p w k) ≡ p
-  pub worded : (p : Place) (w k : List ℕ) → K.words (K.make p w k) ≡ w
-  pub keyed : (p : Place) (w k : List ℕ) → K.key (K.make p w k) ≡ k
+  pub placed : (p : Place) (s : State) (k : List ℕ) → K.place (K.make p s k) ≡ p
+  pub stated : (p : Place) (s : State) (k : List ℕ) → K.state (K.make p s k) ≡ s
+  pub keyed : (p : Place) (s : State) (k : List ℕ) → K.key (K.make p s k) ≡ k
   pub answered : (a : Answer) (s : K.Session) → K.answer (K.step a s) ≡ a
   pub stepped : (a : Answer) (s : K.Session) → K.next (K.step a s) ≡ s
   pub tagged : K.tag_bits ≡ tag_bits K.width

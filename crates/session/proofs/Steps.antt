@@ -17,7 +17,7 @@ use Rattle.places.specs.declared.Label.{Label}
 use Rattle.places.specs.declared.Place.{Place}
 use Rattle.places.specs.Places.{limit_of, count_of, fresh_place, closed_place, moved, start_answer, piece_answer, close_answer, Accepted}
 use Rattle.places.proofs.Accepts.{startable, accepted, closable}
-use Rattle.session.specs.Sessions.{rows_of, flat_of, fresh_state, taken_at, written_at, exact_of, verdict_of, Kind, closed_of, tag_length, fresh_of, start_of, piece_answer_of, taken_of, piece_of, piece_out, tag_at, own_tag, close_answer_of, close_of, close_tag}
+use Rattle.session.specs.Sessions.{fresh_state, taken_at, written_at, exact_of, verdict_of, Kind, closed_of, tag_length, fresh_of, start_of, piece_answer_of, taken_of, piece_of, piece_out, tag_at, own_tag, close_answer_of, close_of, close_tag}
 
 -- what a call gives where its answer A is 0, and where it is not; a is what the answer came to
 module _ {X : Type 0} (a A : Answer) (ea : a ≡ A) (given next kept : X) where
@@ -47,11 +47,14 @@ module _ (K : Kind) where
     start_not h t et = step_of _ _ _ _ ea (where_not a _ ea t _ _ h et)
 
   pub fresh_made : (key nonce k : List ℕ) (T : Terms) (p : Place) (s : State) (t : K.Session) → k ≡ row_of K.width key
-      → s ≡ fresh_state K.width K.tag_bits T k (row_of K.width nonce) → p ≡ fresh_place T → t ≡ K.make p (flat_of s) k → t ≡ fresh_of K key nonce T
+      → s ≡ fresh_state K.width K.tag_bits T k (row_of K.width nonce) → p ≡ fresh_place T → t ≡ K.make p s k → t ≡ fresh_of K key nonce T
   unfolding fresh_of
   fresh_made key nonce k T p s t ek es ep et =
-      et ∙ ap₂ (λ (q : Place) (u : State). K.make q (flat_of u) k) ep es
-      ∙ ap (λ (x : List ℕ). K.make (fresh_place T) (flat_of (fresh_state K.width K.tag_bits T x (row_of K.width nonce))) x) ek
+      et ∙ ap₂ (λ (q : Place) (u : State). K.make q u k) ep es
+      ∙ ap (λ (x : List ℕ). K.make (fresh_place T) ((fresh_state K.width K.tag_bits T x (row_of K.width nonce))) x) ek
+
+  pub closed_made : (p : Place) (s : State) (t : K.Session) → p ≡ closed_place → s ≡ replicate 4 (replicate 4 0) → t ≡ K.make p s (replicate 4 0) → t ≡ closed_of K
+  closed_made p s t ep es et = et ∙ ap₂ (λ (q : Place) (u : State). K.make q u (replicate 4 0)) ep es
 
 -- ---- piece
 
@@ -64,16 +67,14 @@ pub record PieceFound (K : Kind) (s : K.Session) (label : Label) (x out : List �
   pub exact_is : exact ≡ exact_of K.way label.part (length x) (length out)
   pub answer_is : answer ≡ piece_answer place label (length x) exact
 
--- what was made of a piece that is accepted: the rows of the session's words, the state that took the piece in, the place after it, and the session of both
+-- what was made of a piece that is accepted: the state that took the piece in, the place after it, and the session of both
 pub record PieceMade (K : Kind) (s : K.Session) (label : Label) (x : List ℕ) (p : Place) : Type 0 where
-  pub rows : State
   pub state : State
   pub place : Place
   pub session : K.Session
-  pub rows_is : rows ≡ rows_of (K.words s)
-  pub state_is : state ≡ taken_at K.width p K.way label.part x rows
+  pub state_is : state ≡ taken_at K.width p K.way label.part x (K.state s)
   pub place_is : place ≡ cond (leb (count_of p label.part + length x) (limit_of label.part)) (moved p label.part (length x)) p
-  pub session_is : session ≡ K.make place (flat_of state) (K.key s)
+  pub session_is : session ≡ K.make place state (K.key s)
 
 module _ (K : Kind) (s : K.Session) (label : Label) (x out : List ℕ) (found : PieceFound K s label x out) where
   answered : found.answer ≡ piece_answer_of K s label x out
@@ -90,20 +91,19 @@ module _ (K : Kind) (s : K.Session) (label : Label) (x out : List ℕ) (found : 
       let p : Place = found.place in
       let room : leb (count_of p label.part + length x) (limit_of label.part) ≡ true = le-leb _ _ (piece_accepted h).room in
       let next : made.place ≡ moved p label.part (length x) = made.place_is ∙ ap (λ (b : Bool). cond b (moved p label.part (length x)) p) room in
-      let state : made.state ≡ taken_at K.width p K.way label.part x (rows_of (K.words s)) = made.state_is ∙ ap (taken_at K.width p K.way label.part x) made.rows_is in
-      made.session_is ∙ ap₂ (λ (y : Place) (z : State). K.make y (flat_of z) (K.key s)) next state
-      ∙ ap (λ (y : Place). K.make (moved y label.part (length x)) (flat_of (taken_at K.width y K.way label.part x (rows_of (K.words s)))) (K.key s)) found.place_is
+      made.session_is ∙ ap₂ (λ (y : Place) (z : State). K.make y z (K.key s)) next made.state_is
+      ∙ ap (λ (y : Place). K.make (moved y label.part (length x)) ((taken_at K.width y K.way label.part x (K.state s))) (K.key s)) found.place_is
 
   pub piece_taken : done_of found.answer ≡ true → (made : PieceMade K s label x found.place) → K.step found.answer made.session ≡ piece_of K s label x out
   unfolding piece_of
   piece_taken h made = step_of K _ _ _ _ answered (where_done found.answer _ answered made.session _ s h (made_taken h made))
 
-  pub piece_wrote : done_of found.answer ≡ true → (u : State) (o : List ℕ) → u ≡ rows_of (K.words s) → o ≡ written_at K.width found.place K.way label.part x u out
+  pub piece_wrote : done_of found.answer ≡ true → (o : List ℕ) → o ≡ written_at K.width found.place K.way label.part x (K.state s) out
       → o ≡ piece_out K s label x out
   unfolding piece_out
-  piece_wrote h u o eu eo =
+  piece_wrote h o eo =
       where_done found.answer _ answered o _ out h
-      (eo ∙ ap₂ (λ (y : Place) (z : State). written_at K.width y K.way label.part x z out) found.place_is eu)
+      (eo ∙ ap (λ (y : Place). written_at K.width y K.way label.part x (K.state s) out) found.place_is)
 
   pub piece_kept : done_of found.answer ≡ false → K.step found.answer s ≡ piece_of K s label x out
   unfolding piece_of
@@ -122,12 +122,10 @@ pub record CloseFound (K : Kind) (s : K.Session) (edition : Edition) (tag : List
   pub place_is : place ≡ K.place s
   pub answer_is : answer ≡ close_answer place edition (tag_length K) (length tag)
 
--- the tag that was worked out where it is done, from the rows of the session's words
+-- the tag that was worked out where it is done, from the session's state
 pub record TagMade (K : Kind) (s : K.Session) (p : Place) : Type 0 where
-  pub rows : State
   pub tag : List ℕ
-  pub rows_is : rows ≡ rows_of (K.words s)
-  pub tag_is : tag ≡ tag_at K p (K.key s) rows
+  pub tag_is : tag ≡ tag_at K p (K.key s) (K.state s)
 
 module _ (K : Kind) (s : K.Session) (edition : Edition) (tag : List ℕ) (found : CloseFound K s edition tag) where
   closing : found.answer ≡ close_answer_of K s edition tag
@@ -140,7 +138,7 @@ module _ (K : Kind) (s : K.Session) (edition : Edition) (tag : List ℕ) (found 
   -- the tag that was worked out is the session's own
   tag_own : (own : TagMade K s found.place) → own.tag ≡ own_tag K s
   unfolding own_tag
-  tag_own own = own.tag_is ∙ ap₂ (λ (y : Place) (z : State). tag_at K y (K.key s) z) found.place_is own.rows_is
+  tag_own own = own.tag_is ∙ ap (λ (y : Place). tag_at K y (K.key s) (K.state s)) found.place_is
 
   pub close_done : done_of found.answer ≡ true → (own : TagMade K s found.place) (v : Answer) (t : K.Session) → v ≡ verdict_of K.way tag own.tag → t ≡ closed_of K
       → K.step v t ≡ close_of K s edition tag

@@ -4,3 +4,4 @@ pub mod Refusals
 pub mod Promises
 pub mod Largest
 pub mod Ran
+pub mod Kinds

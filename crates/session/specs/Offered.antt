@@ -14,7 +14,7 @@ use Rattle.places.specs.declared.Standing.TheVariants.{Open}
 use Rattle.places.specs.declared.Label.{Label}
 use Rattle.places.specs.declared.Place.{Place}
 use Rattle.places.specs.Terms.{front_of}
-use Rattle.session.specs.Sessions.{flat_of, taken, Kind, piece_of, piece_out, close_of}
+use Rattle.session.specs.Sessions.{taken, Kind, piece_of, piece_out, close_of}
 
 -- a piece as it is offered, with the output lent to it, which a checking session does not take
 pub record Piece : Type 0 where
@@ -137,7 +137,7 @@ module _ (K : Kind) (key nonce : List ℕ) (T : Terms) where
 
   -- the one session that is in a part with these bytes joined
   abbrev pub held : Part → List ℕ → List ℕ → List ℕ → K.Session
-  held part note body trailer = K.make (place_in T part note body trailer) (flat_of (state_in part note body trailer)) (row_of K.width key)
+  held part note body trailer = K.make (place_in T part note body trailer) (state_in part note body trailer) (row_of K.width key)
 
   -- the same of a list of accepted pieces
   abbrev pub held_by : List Piece → K.Session

@@ -20,22 +20,6 @@ use Rattle.places.specs.Places.{rank_of, behind_all, limit_of, mark_of, ends_of,
 pub data Way : Type 0 where
   sealing checking : Way
 
--- sixteen words as four rows of four, and back
-abbrev pub rows_of : List ℕ → State
-rows_of s =
-    rows
-    (row (word_at s 0) (word_at s 1) (word_at s 2) (word_at s 3))
-    (row (word_at s 4) (word_at s 5) (word_at s 6) (word_at s 7))
-    (row (word_at s 8) (word_at s 9) (word_at s 10) (word_at s 11))
-    (row (word_at s 12) (word_at s 13) (word_at s 14) (word_at s 15))
-
-abbrev pub flat_of : State → List ℕ
-flat_of s =
-    word_at (row_at s 0) 0 ∷ word_at (row_at s 0) 1 ∷ word_at (row_at s 0) 2 ∷ word_at (row_at s 0) 3
-    ∷ word_at (row_at s 1) 0 ∷ word_at (row_at s 1) 1 ∷ word_at (row_at s 1) 2 ∷ word_at (row_at s 1) 3
-    ∷ word_at (row_at s 2) 0 ∷ word_at (row_at s 2) 1 ∷ word_at (row_at s 2) 2 ∷ word_at (row_at s 2) 3
-    ∷ word_at (row_at s 3) 0 ∷ word_at (row_at s 3) 1 ∷ word_at (row_at s 3) 2 ∷ word_at (row_at s 3) 3 ∷ []
-
 -- ---- What pieces and ends do to the state
 
 -- the state that a session starts with, from the words of its key and its nonce: the front is taken in ahead of the note
@@ -105,9 +89,9 @@ pub record Kind : Type 1 where
   pub Session : Type 0
   pub Step : Type 0
   pub place : Session → Place
-  pub words : Session → List ℕ
+  pub state : Session → State
   pub key : Session → List ℕ
-  pub make : Place → List ℕ → List ℕ → Session
+  pub make : Place → State → List ℕ → Session
   pub step : Answer → Session → Step
   pub answer : Step → Answer
   pub next : Step → Session
@@ -118,11 +102,11 @@ pub record Kind : Type 1 where
 module _ (K : Kind) where
   -- the one closed session, in which every number is zero
   abbrev pub closed_of : K.Session
-  closed_of = K.make closed_place (replicate 16 0) (replicate 4 0)
+  closed_of = K.make closed_place (replicate 4 (replicate 4 0)) (replicate 4 0)
 
   -- the state that a session holds
   abbrev pub state_of : K.Session → State
-  state_of s = rows_of (K.words s)
+  state_of s = K.state s
 
   -- the bytes of a tag
   abbrev pub tag_length : ℕ
@@ -133,7 +117,7 @@ module _ (K : Kind) where
   unfoldable pub fresh_of : List ℕ → List ℕ → Terms → K.Session
   fresh_of key nonce T =
       let k = row_of K.width key in
-      K.make (fresh_place T) (flat_of (fresh_state K.width K.tag_bits T k (row_of K.width nonce))) k
+      K.make (fresh_place T) (fresh_state K.width K.tag_bits T k (row_of K.width nonce)) k
 
   unfoldable pub start_of : List ℕ → List ℕ → Terms → K.Step
   start_of key nonce T =
@@ -147,7 +131,7 @@ module _ (K : Kind) where
 
   unfoldable pub taken_of : K.Session → Part → List ℕ → K.Session
   taken_of s part x =
-      K.make (moved (K.place s) part (length x)) (flat_of (taken_at K.width (K.place s) K.way part x (state_of s))) (K.key s)
+      K.make (moved (K.place s) part (length x)) (taken_at K.width (K.place s) K.way part x (state_of s)) (K.key s)
 
   -- the answer and the next session: the piece taken in, or the session as it was
   unfoldable pub piece_of : K.Session → Label → List ℕ → List ℕ → K.Step

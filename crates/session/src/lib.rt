@@ -1,2 +1,7 @@
-// What sealing and checking in pieces are stands in specs/, and the laws about them in proofs/, once for every kind of session. This crate has no code.
+// Sealing and checking in pieces, at either width: a session for one edition of a job, which goes in and comes back by value.
 #![tactic(auto)]
+
+pub mod check;
+mod parts;
+pub mod seal;
+pub mod session;

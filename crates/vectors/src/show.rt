@@ -25,10 +25,12 @@ pub(crate) fn constants(rt: &impl Print, width: usize, loud: bool) -> Result<(),
 pub(crate) fn session(rt: &impl Print, held: Held, loud: bool) -> io::Result<()> {
     rt.print(0)?;
     if loud {
+        let wide = held.is_wide();
+        let stands = held.place();
         for i in 0..20 {
-            tell::word(rt, held.word(i), held.wide)?;
+            tell::word(rt, held.word(i), wide)?;
         }
-        place(rt, held.place)?;
+        place(rt, stands)?;
     }
     Ok(())
 }

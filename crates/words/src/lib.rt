@@ -1,5 +1,8 @@
-// Words of each width: their bytes, the least first, and rotation.
+// What a width is: its words, with their bytes and rotation, and the rows and the state that are made of them.
 #![tactic(auto)]
 
-pub mod w32;
-pub mod w64;
+pub mod runs;
+pub mod state;
+mod w32;
+mod w64;
+pub mod word;

@@ -1,41 +1,106 @@
 // Words of 32 bits.
-ghost use Rattle.std.specs.Prelude.{◌≡◌, ◌<◌, ◌%◌};
-ghost use Rattle.norx.specs.Norx.{word32, bits, word_bytes, word_of, bytes_of, ror};
+ghost use Rattle.std.specs.Prelude.{refl};
+ghost use Rattle.norx.specs.Norx.{word32};
 
-use rules::w32::*;
+use super::word::Word;
 
-fn wide(x: u8) -> Word
-    ensures { (result ≡ x) × (result < 256) }
-{
-    x as Word
-}
+impl Word for u32 {
+    ghost width = { word32 };
 
-// The word of four bytes.
-pub fn load(b: [u8; WORD]) -> Word
-    ensures { result ≡ word_of b }
-{
-    wide(b[0]) + wide(b[1]) * 0x100 + wide(b[2]) * 0x1_0000 + wide(b[3]) * 0x100_0000
-}
+    ghost value = { λ x. x };
 
-// The four bytes of a word.
-pub fn store(x: Word) -> [u8; WORD]
-    ensures { result ≡ bytes_of (word_bytes word32) x }
-{
-    [
-        (x % 0x100) as u8,
-        (x / 0x100 % 0x100) as u8,
-        (x / 0x1_0000 % 0x100) as u8,
-        (x / 0x100_0000) as u8,
-    ]
-}
+    ghost word = { λ n. n };
 
-// x rotated right, by the number modulo the width.
-pub fn rotated(x: Word, right: u32) -> Word
-    ensures { result ≡ ror word32 (right % bits word32) x }
-{
-    let r = right % WORD_BITS;
-    if r == 0 {
-        return x;
+    ghost back = { λ x. refl };
+
+    #[inline(always)]
+    fn bytes() -> usize {
+        4
     }
-    (x >> r) | (x << (WORD_BITS - r))
+
+    #[inline(always)]
+    fn bits() -> u32 {
+        32
+    }
+
+    #[inline(always)]
+    fn r0() -> u32 {
+        8
+    }
+
+    #[inline(always)]
+    fn r1() -> u32 {
+        11
+    }
+
+    #[inline(always)]
+    fn r2() -> u32 {
+        16
+    }
+
+    #[inline(always)]
+    fn r3() -> u32 {
+        31
+    }
+
+    #[inline(always)]
+    fn u8_to_u11() -> (u32, u32, u32, u32) {
+        (0xa3d8d930, 0x3fa8b72c, 0xed84eb49, 0xedca4787)
+    }
+
+    #[inline(always)]
+    fn u12_to_u15() -> (u32, u32, u32, u32) {
+        (0x335463eb, 0xf994220b, 0xbe0bf5c9, 0xd7c49104)
+    }
+
+    #[inline(always)]
+    fn rounds_of(rounds: u32) -> u32 {
+        if rounds == 0 { 1 } else { rounds }
+    }
+
+    #[inline(always)]
+    fn of_number(n: u32) -> u32 {
+        n
+    }
+
+    #[inline(always)]
+    fn number(self) -> u64 {
+        self as u64
+    }
+
+    #[inline(always)]
+    fn load(b: &[u8]) -> u32 {
+        if b.len() == 4 {
+            u32::from_le_bytes([b[0], b[1], b[2], b[3]])
+        } else {
+            0
+        }
+    }
+
+    #[inline(always)]
+    fn store(self, out: &mut [u8]) {
+        if out.len() == 4 {
+            out.copy_from_slice(&self.to_le_bytes());
+        }
+    }
+
+    #[inline(always)]
+    fn xor(self, y: u32) -> u32 {
+        self ^ y
+    }
+
+    #[inline(always)]
+    fn h(self, y: u32) -> u32 {
+        self ^ y ^ ((self & y) << 1)
+    }
+
+    #[inline(always)]
+    fn rotated(self, right: u32) -> u32 {
+        self.rotate_right(right)
+    }
+
+    #[inline(always)]
+    fn owned(self) -> u32 {
+        self
+    }
 }

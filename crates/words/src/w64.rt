@@ -1,37 +1,116 @@
 // Words of 64 bits.
-ghost use Rattle.std.specs.Prelude.{◌≡◌, ◌%◌};
-ghost use Rattle.norx.specs.Norx.{word64, bits, word_bytes, word_of, bytes_of, ror};
+ghost use Rattle.std.specs.Prelude.{refl};
+ghost use Rattle.norx.specs.Norx.{word64};
 
-use super::w32;
-use rules::w64::*;
+use super::word::Word;
 
-// The word of eight bytes.
-pub fn load(b: [u8; WORD]) -> Word
-    ensures { result ≡ word_of b }
-{
-    let low = w32::load([b[0], b[1], b[2], b[3]]);
-    let high = w32::load([b[4], b[5], b[6], b[7]]);
-    (low as Word) + (high as Word) * 0x1_0000_0000
-}
+impl Word for u64 {
+    ghost width = { word64 };
 
-// The eight bytes of a word.
-pub fn store(x: Word) -> [u8; WORD]
-    ensures { result ≡ bytes_of (word_bytes word64) x }
-{
-    let low = w32::store((x % 0x1_0000_0000) as u32);
-    let high = w32::store((x / 0x1_0000_0000) as u32);
-    [
-        low[0], low[1], low[2], low[3], high[0], high[1], high[2], high[3],
-    ]
-}
+    ghost value = { λ x. x };
 
-// x rotated right, by the number modulo the width.
-pub fn rotated(x: Word, right: u32) -> Word
-    ensures { result ≡ ror word64 (right % bits word64) x }
-{
-    let r = right % WORD_BITS;
-    if r == 0 {
-        return x;
+    ghost word = { λ n. n };
+
+    ghost back = { λ x. refl };
+
+    #[inline(always)]
+    fn bytes() -> usize {
+        8
     }
-    (x >> r) | (x << (WORD_BITS - r))
+
+    #[inline(always)]
+    fn bits() -> u32 {
+        64
+    }
+
+    #[inline(always)]
+    fn r0() -> u32 {
+        8
+    }
+
+    #[inline(always)]
+    fn r1() -> u32 {
+        19
+    }
+
+    #[inline(always)]
+    fn r2() -> u32 {
+        40
+    }
+
+    #[inline(always)]
+    fn r3() -> u32 {
+        63
+    }
+
+    #[inline(always)]
+    fn u8_to_u11() -> (u64, u64, u64, u64) {
+        (
+            0xb15e641748de5e6b,
+            0xaa95e955e10f8410,
+            0x28d1034441a9dd40,
+            0x7f31bbf964e93bf5,
+        )
+    }
+
+    #[inline(always)]
+    fn u12_to_u15() -> (u64, u64, u64, u64) {
+        (
+            0xb5e9e22493dffb96,
+            0xb980c852479fafbd,
+            0xda24516bf55eafd4,
+            0x86026ae8536f1501,
+        )
+    }
+
+    #[inline(always)]
+    fn rounds_of(rounds: u32) -> u32 {
+        rounds
+    }
+
+    #[inline(always)]
+    fn of_number(n: u32) -> u64 {
+        n as u64
+    }
+
+    #[inline(always)]
+    fn number(self) -> u64 {
+        self
+    }
+
+    #[inline(always)]
+    fn load(b: &[u8]) -> u64 {
+        if b.len() == 8 {
+            u64::from_le_bytes([b[0], b[1], b[2], b[3], b[4], b[5], b[6], b[7]])
+        } else {
+            0
+        }
+    }
+
+    #[inline(always)]
+    fn store(self, out: &mut [u8]) {
+        if out.len() == 8 {
+            out.copy_from_slice(&self.to_le_bytes());
+        }
+    }
+
+    #[inline(always)]
+    fn xor(self, y: u64) -> u64 {
+        self ^ y
+    }
+
+    #[inline(always)]
+    fn h(self, y: u64) -> u64 {
+        self ^ y ^ ((self & y) << 1)
+    }
+
+    #[inline(always)]
+    fn rotated(self, right: u32) -> u64 {
+        self.rotate_right(right)
+    }
+
+    #[inline(always)]
+    fn owned(self) -> u64 {
+        self
+    }
 }

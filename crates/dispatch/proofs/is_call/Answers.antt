@@ -5,4 +5,4 @@ use Rattle.dispatch.proofs.is_call.Goals as goal
 
 pub returns : goal.returns
 unfolding is_call
-returns c = refl
+returns c = rw c.checks-checking.ensures refl

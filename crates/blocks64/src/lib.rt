@@ -1,9 +1,0 @@
-// Blocks at 64-bit words: the one loop over them, and how a state begins and ends.
-#![tactic(auto)]
-
-pub mod blocks;
-pub mod ends;
-mod mark;
-mod rows;
-pub mod turns;
-mod word;

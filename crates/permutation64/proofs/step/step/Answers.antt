@@ -1,5 +1,0 @@
--- `permutation64::step::step` is H, and a word xored with it and rotated.
-use Rattle.permutation64.proofs.step.step.Goals as goal
-
-pub returns : goal.returns
-returns c = cc

@@ -1,0 +1,8 @@
+-- `words::w32`: H as the definition has it.
+use Rattle.std.specs.Prelude.{refl}
+use Rattle.norx.specs.Norx.{h_of}
+use Rattle.words.proofs.w32.U32Word.h.Goals as goal
+
+pub returns : goal.returns
+unfolding h_of
+returns c = refl

@@ -1,0 +1,8 @@
+-- `words::w32`: half of the table, which follows from the rule of the constants.
+use Rattle.std.proofs.Common.{List, ℕ, ap}
+use Rattle.norx.specs.Norx.{row_at}
+use Rattle.norx.proofs.Constants.{upper32}
+use Rattle.words.proofs.w32.U32Word.u12_to_u15.Goals as goal
+
+pub returns : goal.returns
+returns c = ap (λ (t : List (List ℕ)). row_at t 1) upper32

@@ -1,0 +1,9 @@
+-- `words::w64`: the machine's rotation, by the law at this width.
+use Rattle.std.proofs.Common.{◌%◌, ◌∙◌, arith}
+use Rattle.norx.specs.Norx.{word64}
+use Rattle.norx.proofs.Rotate.{by_machine}
+use Rattle.words.proofs.w64.U64Word.rotated.Goals as goal
+
+pub returns : goal.returns
+returns c =
+    let x = c.args in c.rotate_right.ensures ∙ by_machine word64 (x.right % 64) x.self (omega arith) c.ranges.self.fits
