@@ -4,7 +4,7 @@ ghost use Rattle.dispatch.specs.Kept.{kept_receiver, kept_session, kept_call, ke
 
 use crate::jobs::{list, receiver, segment, take};
 use crate::{Words, make};
-use answers::Refusal;
+use answers::{Outcome, Refusal};
 use held::Held;
 use held::receiver::{HeldReceiver, HeldReceiverStep};
 use session::session::Close;
@@ -29,55 +29,51 @@ pub fn call(k: usize, a: Words, memory: &[u8], kept: Kept, out: &mut [u8]) -> Ke
     ensures output { out.new ≡ kept_out k a memory.now kept out.old }
 {
     if k == 10 {
-        let outcome = segment(a, memory, out);
-        let answer = outcome.answer;
-        return KeptStep {
-            answer,
-            runs: outcome.runs,
-            kept,
-        };
+        let Outcome { answer, runs } = segment(a, memory, out);
+        return KeptStep { answer, runs, kept };
     }
     if k == 11 {
         return with_receiver(kept, receiver(a, memory));
     }
     if k == 12 {
-        let held = kept.receiver;
-        return with_receiver(kept, take(a, memory, held, out));
+        return with_receiver(kept, take(a, memory, kept.receiver, out));
     }
     if k == 14 {
-        let answer = list(a, out);
         return KeptStep {
-            answer,
+            answer: list(a, out),
             runs: 0,
             kept,
         };
     }
-    let held = kept.session;
-    with_session(kept, make(k, a, memory, held, out))
+    with_session(kept, make(k, a, memory, kept.session, out))
 }
 
-fn with_receiver(mut kept: Kept, step: HeldReceiverStep) -> KeptStep
+fn with_receiver(kept: Kept, step: HeldReceiverStep) -> KeptStep
     ensures { result ≡ kept_receiver kept step }
 {
-    let answer = step.answer;
-    let receiver = step.receiver;
-    kept.receiver = receiver;
+    let HeldReceiverStep {
+        answer,
+        runs,
+        receiver,
+    } = step;
     KeptStep {
         answer,
-        runs: step.runs,
-        kept,
+        runs,
+        kept: Kept { receiver, ..kept },
     }
 }
 
-fn with_session(mut kept: Kept, step: Close<Held>) -> KeptStep
+fn with_session(kept: Kept, step: Close<Held>) -> KeptStep
     ensures { result ≡ kept_session kept step }
 {
-    let answer = step.answer;
-    let session = step.session;
-    kept.session = session;
+    let Close {
+        answer,
+        runs,
+        session,
+    } = step;
     KeptStep {
         answer,
-        runs: step.runs,
-        kept,
+        runs,
+        kept: Kept { session, ..kept },
     }
 }

@@ -1,13 +1,11 @@
 // What is sealed and checked.
-ghost use Rattle.std.specs.Prelude.{◌<◌, ◌≤◌};
-
 use places::terms::{Edition, Terms};
 use places::{Label, Part};
 use std::fmt;
 
 pub(crate) const BODY: usize = 1024 * 1024;
 
-const PIECE: usize = 64 * 1024;
+pub(crate) const PIECE: usize = 64 * 1024;
 
 pub(crate) const KEY: [u8; 32] = *b"the key of tool 4 and the office";
 
@@ -60,12 +58,4 @@ pub(crate) fn label(offset: usize) -> Label {
         part: Part::Body,
         offset,
     }
-}
-
-// Where the piece ends that begins at a place of a text of n bytes.
-pub(crate) fn piece_end(at: usize, n: usize) -> usize
-    requires { at < n }
-    ensures { (at < result) × (result ≤ n) }
-{
-    if n - at < PIECE { n } else { at + PIECE }
 }

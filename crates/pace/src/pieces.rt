@@ -1,7 +1,5 @@
 // The works in pieces, at a width.
-ghost use Rattle.std.specs.Prelude.{◌≡◌, length};
-
-use crate::job::{EDITION, KEY, Line, NONCE, Work, label, piece_end, terms};
+use crate::job::{EDITION, KEY, Line, NONCE, PIECE, Work, label, terms};
 use answers::Refusal;
 use session::check::Checking;
 use session::seal::Sealing;
@@ -30,16 +28,12 @@ fn seal<W: Word>(rounds: u32, body: &[u8], out: &mut [u8]) -> Result<(), Refusal
 }
 
 // The session that has accepted every piece of a body.
-fn seal_pieces<W: Word>(session: Sealing<W>, body: &[u8], out: &mut [u8]) -> Sealing<W>
-    requires { length body.now ≡ length out.old }
-{
+fn seal_pieces<W: Word>(session: Sealing<W>, body: &[u8], out: &mut [u8]) -> Sealing<W> {
     let mut s = session;
-    let mut at = 0;
-    while at < body.len() {
-        let end = piece_end(at, body.len());
-        let next = seal_piece(s, at, &body[at..end], &mut out[at..end]);
-        s = next;
-        at = end;
+    let mut at: usize = 0;
+    for (bytes, text) in body.chunks(PIECE).zip(out.chunks_mut(PIECE)) {
+        s = seal_piece(s, at, bytes, text);
+        at = at.saturating_add(bytes.len());
     }
     s
 }
@@ -72,12 +66,10 @@ fn check<W: Word>(rounds: u32, sealed: &[u8], n: usize) -> Result<(), Refusal> {
 // The session that has accepted every piece of a ciphertext.
 fn check_pieces<W: Word>(session: Checking<W>, text: &[u8]) -> Checking<W> {
     let mut s = session;
-    let mut at = 0;
-    while at < text.len() {
-        let end = piece_end(at, text.len());
-        let next = check_piece(s, at, &text[at..end]);
-        s = next;
-        at = end;
+    let mut at: usize = 0;
+    for bytes in text.chunks(PIECE) {
+        s = check_piece(s, at, bytes);
+        at = at.saturating_add(bytes.len());
     }
     s
 }

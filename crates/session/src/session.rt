@@ -55,7 +55,7 @@ impl<W: Word> Session<W> {
     }
 
     // The one closed session: every number in it is zero.
-    pub(crate) fn closed() -> Session<W>
+    pub fn closed() -> Session<W>
         ensures { result ≡ closed_of (plain_of W W.width) }
     {
         Session {

@@ -55,7 +55,7 @@ impl Word for u32 {
 
     #[inline(always)]
     fn rounds_of(rounds: u32) -> u32 {
-        if rounds == 0 { 1 } else { rounds }
+        rounds.max(1)
     }
 
     #[inline(always)]

@@ -10,7 +10,7 @@ unfolding kept_call kept_out
 returns-then-k-eq10 c =
     let x = c.args in
     let is-10 = c.if-k-eq10.true in
-    record { step = ap (kept_all x.kept) c.segment-outcome.ensures.outcome ∙ sym (at_segment _ _ _ _ _ _ is-10); output = c.segment-outcome.ensures.output ∙ sym (at_segment _ _ _ _ _ _ is-10) }
+    record { step = ap (kept_all x.kept) c.segment-answer.ensures.outcome ∙ sym (at_segment _ _ _ _ _ _ is-10); output = c.segment-answer.ensures.output ∙ sym (at_segment _ _ _ _ _ _ is-10) }
 
 pub returns-then-k-eq11 : goal.returns-then-k-eq11
 unfolding kept_call kept_out
@@ -35,7 +35,7 @@ returns-then-k-eq14 c =
     let not-10 = c.if-k-eq10.false in
     let not-11 = c.if-k-eq11.false in
     let not-12 = c.if-k-eq12.false in
-    let is_14 = c.if-k-eq14.true in record { step = ap (λ (a : Answer). kept_all x.kept (unrun a)) c.list-answer.ensures.answer ∙ sym (at_list _ _ _ _ _ _ not-10 not-11 not-12 is_14); output = c.list-answer.ensures.output ∙ sym (at_list _ _ _ _ _ _ not-10 not-11 not-12 is_14) }
+    let is_14 = c.if-k-eq14.true in record { step = ap (λ (a : Answer). kept_all x.kept (unrun a)) c.list.ensures.answer ∙ sym (at_list _ _ _ _ _ _ not-10 not-11 not-12 is_14); output = c.list.ensures.output ∙ sym (at_list _ _ _ _ _ _ not-10 not-11 not-12 is_14) }
 
 pub returns : goal.returns
 unfolding kept_call kept_out
