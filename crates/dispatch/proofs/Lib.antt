@@ -1,4 +1,3 @@
 pub mod Constants
-pub mod Number
 pub mod Same
 pub mod Unique

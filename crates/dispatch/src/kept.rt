@@ -24,28 +24,25 @@ pub struct KeptStep {
 }
 
 // Makes the call of a number: 10 seals a segment, 11 starts a receiver, 12 takes a segment, 14 writes a list, and any other is one on the session.
+#[tactic(auto, unfolding(crate::specs::Kept::kept_call, crate::specs::Kept::kept_out, crate::specs::Kept::by_job))]
 pub fn call(k: usize, a: Words, memory: &[u8], kept: Kept, out: &mut [u8]) -> KeptStep
     ensures step { result ≡ kept_call k a memory.now kept out.old }
     ensures output { out.new ≡ kept_out k a memory.now kept out.old }
 {
-    if k == 10 {
-        let Outcome { answer, runs } = segment(a, memory, out);
-        return KeptStep { answer, runs, kept };
-    }
-    if k == 11 {
-        return with_receiver(kept, receiver(a, memory));
-    }
-    if k == 12 {
-        return with_receiver(kept, take(a, memory, kept.receiver, out));
-    }
-    if k == 14 {
-        return KeptStep {
+    match k {
+        10 => {
+            let Outcome { answer, runs } = segment(a, memory, out);
+            KeptStep { answer, runs, kept }
+        }
+        11 => with_receiver(kept, receiver(a, memory)),
+        12 => with_receiver(kept, take(a, memory, kept.receiver, out)),
+        14 => KeptStep {
             answer: list(a, out),
             runs: 0,
             kept,
-        };
+        },
+        _ => with_session(kept, make(k, a, memory, kept.session, out)),
     }
-    with_session(kept, make(k, a, memory, kept.session, out))
 }
 
 fn with_receiver(kept: Kept, step: HeldReceiverStep) -> KeptStep

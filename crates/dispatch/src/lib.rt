@@ -40,26 +40,19 @@ const OPENING: bool = true;
 const CHECKING: bool = true;
 
 // Makes the call of a number: 1 seals, 2 opens, 3 starts a sealing and 4 a checking session, 5 offers a piece, and any other closes.
+#[tactic(auto, unfolding(crate::specs::Calls::made_call, crate::specs::Calls::made_out, crate::specs::Calls::by_number))]
 pub fn make(k: usize, a: Words, memory: &[u8], held: Held, out: &mut [u8]) -> Close<Held>
     ensures step { result ≡ made_call k a memory.now held out.old }
     ensures output { out.new ≡ made_out k a memory.now held out.old }
 {
-    if k == 1 {
-        return one_call(SEALING, a, memory, held, out);
+    match k {
+        1 => one_call(SEALING, a, memory, held, out),
+        2 => one_call(OPENING, a, memory, held, out),
+        3 => start(SEALING, a, memory),
+        4 => start(CHECKING, a, memory),
+        5 => piece(a, memory, held, out),
+        _ => close(a, memory, held, out),
     }
-    if k == 2 {
-        return one_call(OPENING, a, memory, held, out);
-    }
-    if k == 3 {
-        return start(SEALING, a, memory);
-    }
-    if k == 4 {
-        return start(CHECKING, a, memory);
-    }
-    if k == 5 {
-        return piece(a, memory, held, out);
-    }
-    close(a, memory, held, out)
 }
 
 // Whether the call of a number can be made on what is held: a start of a session or a receiver is at one of the two widths, a checking session takes no output, and each kind is closed by a number of its own, 6 a sealing and 7 a checking session.
@@ -239,24 +232,24 @@ fn label(a: Words) -> Label
 }
 
 // 1 is the body, 2 the trailer, and any other number the note.
+#[tactic(auto, unfolding(crate::specs::Calls::part_of))]
 fn part(k: usize) -> Part
     ensures { result ≡ part_of k }
 {
-    if k == 1 {
-        return Part::Body;
+    match k {
+        1 => Part::Body,
+        2 => Part::Trailer,
+        _ => Part::Note,
     }
-    if k == 2 {
-        return Part::Trailer;
-    }
-    Part::Note
 }
 
 // 0 is closed, and any other number open, in the part of the number before it.
+#[tactic(auto, unfolding(crate::specs::Calls::standing_of))]
 fn standing(k: usize) -> Standing
     ensures { result ≡ standing_of k }
 {
-    if k == 0 {
-        return Standing::Closed;
+    match k {
+        0 => Standing::Closed,
+        _ => Standing::Open(part(k - 1)),
     }
-    Standing::Open(part(k - 1))
 }
