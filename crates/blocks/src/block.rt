@@ -4,12 +4,10 @@ ghost use Rattle.norx.specs.Norx.{rate, rate_of, xor_at};
 ghost use Rattle.norx.specs.Turns.{put};
 
 use super::blocks::store_rate;
+use rules::w64::RATE as LONGEST;
 use std::marker::{Model, PhantomData};
 use words::state::State;
 use words::word::{Word, rate};
-
-// The bytes of a block at 64-bit words, the longer ones.
-const LONGEST: usize = 96;
 
 // A contract sees the list of its R bytes.
 #[derive(Drop)]

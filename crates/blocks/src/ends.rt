@@ -6,16 +6,11 @@ ghost use Rattle.rules.specs.Rules.{rounds_of, tag_bytes};
 use super::rows::{load_row, store_row};
 use super::turns::enter_keyed;
 use permutation::upper_constants;
-use rules::{NO_MARK, TAG_MARK};
+use rules::w64::TAG as LONGEST_TAG;
+use rules::{NO_MARK, PARALLELISM, TAG_MARK};
 use texts::same;
 use words::state::{Row, State};
 use words::word::{Word, row_bytes};
-
-// The parallelism of NORX here.
-const PARALLELISM: u32 = 1;
-
-// The bytes of a tag at 64-bit words, the longer ones.
-const LONGEST_TAG: usize = 32;
 
 // The words of a key or of a nonce; four zeros where it has not the length of one.
 #[inline(always)]

@@ -1,10 +1,12 @@
-// The numbers that rule every call, each of them once, and in calls what they decide; those of a width are in words.
+// The numbers that rule every call, each of them once, and in calls what they decide.
 #![tactic(auto)]
 
 ghost use Rattle.std.specs.Prelude.{◌≡◌};
 ghost use Rattle.rules.specs.Rules.{rounds_ok, lengths_ok};
 
 pub mod calls;
+pub mod w32;
+pub mod w64;
 
 // The longest header, body and trailer, in bytes.
 pub const LONGEST_HEADER: usize = 65536;
@@ -41,6 +43,9 @@ pub const TAG_MARK: u8 = 0x08;
 
 // Where P runs with no mark.
 pub const NO_MARK: u8 = 0x00;
+
+// The parallelism of NORX here.
+pub const PARALLELISM: u32 = 1;
 
 // Rounds are 4 or 6.
 pub fn rounds_ok(rounds: u32) -> bool

@@ -4,13 +4,14 @@ ghost use Rattle.norx.specs.Norx.{row_bytes, tag_bits, row_of, header_mark, afte
 ghost use Rattle.places.specs.Terms.{terms_ok};
 ghost use Rattle.segments.specs.Segments.{segment_nonce, segment_header, segment_answer, segment_runs, segment_out, take_answer, take_runs, take_out};
 
-use crate::{LONGEST_ROW, join};
+use crate::join;
 use answers::{Outcome, Refusal, need, reported};
 use blocks::ends::{row, start};
 use cutting::{Waiting, number, segment_ok, take_links};
 use places::front::front;
 use places::terms::Terms;
 use rules::calls::{open_checks, seal_checks};
+use rules::w64::ROW as LONGEST_ROW;
 use rules::{FRONT, HEADER_MARK, SEGMENT_NUMBER};
 use sealing::body;
 use sponge::pieces::{end, feed};

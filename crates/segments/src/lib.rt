@@ -14,9 +14,6 @@ use places::terms::Terms;
 pub mod at;
 pub mod receiver;
 
-// The bytes of a row at 64-bit words, the longer ones.
-pub(crate) const LONGEST_ROW: usize = 32;
-
 // Lays one text behind the other into an output as long as both.
 pub(crate) fn join(first: &[u8], second: &[u8], out: &mut [u8])
     requires { length out.old ≡ length first.now + length second.now }

@@ -3,6 +3,7 @@ ghost use Rattle.std.specs.Prelude.{refl};
 ghost use Rattle.norx.specs.Norx.{word32};
 
 use super::word::Word;
+use rules::w32::{R0, R1, R2, R3, WIDTH, WORD};
 
 impl Word for u32 {
     ghost width = { word32 };
@@ -15,32 +16,32 @@ impl Word for u32 {
 
     #[inline(always)]
     fn bytes() -> usize {
-        4
+        WORD
     }
 
     #[inline(always)]
     fn bits() -> u32 {
-        32
+        WIDTH
     }
 
     #[inline(always)]
     fn r0() -> u32 {
-        8
+        R0
     }
 
     #[inline(always)]
     fn r1() -> u32 {
-        11
+        R1
     }
 
     #[inline(always)]
     fn r2() -> u32 {
-        16
+        R2
     }
 
     #[inline(always)]
     fn r3() -> u32 {
-        31
+        R3
     }
 
     #[inline(always)]

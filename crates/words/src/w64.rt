@@ -3,6 +3,7 @@ ghost use Rattle.std.specs.Prelude.{refl};
 ghost use Rattle.norx.specs.Norx.{word64};
 
 use super::word::Word;
+use rules::w64::{R0, R1, R2, R3, WIDTH, WORD};
 
 impl Word for u64 {
     ghost width = { word64 };
@@ -15,32 +16,32 @@ impl Word for u64 {
 
     #[inline(always)]
     fn bytes() -> usize {
-        8
+        WORD
     }
 
     #[inline(always)]
     fn bits() -> u32 {
-        64
+        WIDTH as u32
     }
 
     #[inline(always)]
     fn r0() -> u32 {
-        8
+        R0
     }
 
     #[inline(always)]
     fn r1() -> u32 {
-        19
+        R1
     }
 
     #[inline(always)]
     fn r2() -> u32 {
-        40
+        R2
     }
 
     #[inline(always)]
     fn r3() -> u32 {
-        63
+        R3
     }
 
     #[inline(always)]
