@@ -29,6 +29,12 @@ use Rattle.segments.proofs.receiver.Receiver.start.Reads.{Post as Post-receiver-
 use Rattle.segments.specs.contracts.receiver.Receiver.take.{signature as signature-receiver-take}
 use Rattle.segments.proofs.receiver.Receiver.take.Kinds as kinds-receiver-take
 use Rattle.segments.proofs.receiver.Receiver.take.Reads.{Post as Post-receiver-take}
+use Rattle.segments.specs.contracts.receiver.Receiver.key.{signature as signature-receiver-key}
+use Rattle.segments.proofs.receiver.Receiver.key.Kinds as kinds-receiver-key
+use Rattle.segments.proofs.receiver.Receiver.key.Reads.{Post as Post-receiver-key}
+use Rattle.segments.specs.contracts.receiver.Receiver.nonce.{signature as signature-receiver-nonce}
+use Rattle.segments.proofs.receiver.Receiver.nonce.Kinds as kinds-receiver-nonce
+use Rattle.segments.proofs.receiver.Receiver.nonce.Reads.{Post as Post-receiver-nonce}
 use Rattle.segments.specs.contracts.receiver.Receiver.none.{signature as signature-receiver-none}
 use Rattle.segments.proofs.receiver.Receiver.none.Kinds as kinds-receiver-none
 use Rattle.segments.proofs.receiver.Receiver.none.Reads.{Post as Post-receiver-none}
@@ -61,6 +67,16 @@ module _ (W : RattleType) (L : Laws W) (C : IsCopy W) (word : Word.Ghosts W.Deno
       (s s' : AtExit (ended_of 4 (kinds-receiver-take.ps W L C word i clone j) (kinds-receiver-take.r W L C word i clone j)) κs)
       → Post-receiver-take W L C word i clone j κs a r s → Post-receiver-take W L C word i clone j κs a r' s' → (r ≡ r') × (s.1.1.1.1.0.now ≡ s'.1.1.1.1.0.now)
   one_receiver_take κs a r r' s s' p q = (p.0 ∙ sym q.0, p.1 ∙ sym q.1)
+
+  pub one_receiver_key : (κs : Lfts 2) (a : ArgsD (signature-receiver-key W word i clone j) κs) (r r' : ResD (signature-receiver-key W word i clone j) κs)
+      (s s' : AtExit (ended_of 2 (kinds-receiver-key.ps W L C word i clone j) (kinds-receiver-key.r W L C word i clone j)) κs)
+      → Post-receiver-key W L C word i clone j κs a r s → Post-receiver-key W L C word i clone j κs a r' s' → r.now ≡ r'.now
+  one_receiver_key κs a r r' s s' p q = p.0 ∙ sym q.0
+
+  pub one_receiver_nonce : (κs : Lfts 2) (a : ArgsD (signature-receiver-nonce W word i clone j) κs) (r r' : ResD (signature-receiver-nonce W word i clone j) κs)
+      (s s' : AtExit (ended_of 2 (kinds-receiver-nonce.ps W L C word i clone j) (kinds-receiver-nonce.r W L C word i clone j)) κs)
+      → Post-receiver-nonce W L C word i clone j κs a r s → Post-receiver-nonce W L C word i clone j κs a r' s' → r.now ≡ r'.now
+  one_receiver_nonce κs a r r' s s' p q = p.0 ∙ sym q.0
 
   pub one_receiver_none : (κs : Lfts 1) (a : ArgsD (signature-receiver-none W word i clone j) κs) (r r' : ResD (signature-receiver-none W word i clone j) κs)
       (s s' : AtExit (ended_of 1 (kinds-receiver-none.ps W L C word i clone j) (kinds-receiver-none.r W L C word i clone j)) κs)

@@ -5,18 +5,16 @@ ghost use Rattle.cutting.specs.Cutting.{waiting_first};
 ghost use Rattle.segments.specs.Receivers.{no_receiving, starts_answer, starts_with, taking_answer, taking_runs, taking_out, after_taking};
 
 use super::at::open;
-use crate::{LONGEST_ROW, next};
+use crate::next;
 use answers::{Outcome, Refusal};
 use cutting::Waiting;
 use places::start_answer;
 use places::terms::{Edition, Terms};
 use rules::SEGMENT_NUMBER;
+use rules::w64::{JOB_NONCE as LONGEST_JOB_NONCE, ROW as LONGEST_ROW};
 use std::alloc::AllocError;
 use std::marker::{Model, PhantomData};
 use words::word::{Word, row_bytes};
-
-// The bytes of a job's nonce at 64-bit words, the longer ones.
-const LONGEST_JOB_NONCE: usize = LONGEST_ROW - SEGMENT_NUMBER;
 
 // What it was started with, and which segment it waits for. It holds job and revision, so that nobody can change them halfway. Whatever stands in it, every call answers.
 // Key and nonce have room for those of both widths: behind their own bytes are zeros.
@@ -114,6 +112,24 @@ impl<W: Word> Receiver<W> {
             runs,
             receiver,
         }
+    }
+
+    // The key that it was started with.
+    #[inline(always)]
+    pub fn key(&self) -> &[u8]
+        ensures bytes { result.now ≡ self.now.key }
+        ensures long { length self.now.key ≡ row_bytes W.width }
+    {
+        &self.key[..row_bytes::<W>()]
+    }
+
+    // The job's nonce that it was started with.
+    #[inline(always)]
+    pub fn nonce(&self) -> &[u8]
+        ensures bytes { result.now ≡ self.now.nonce }
+        ensures long { length self.now.nonce + 8 ≡ row_bytes W.width }
+    {
+        &self.nonce[..row_bytes::<W>() - SEGMENT_NUMBER]
     }
 
     // The receiver of a refused start: every number in it is zero.
