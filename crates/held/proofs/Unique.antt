@@ -85,11 +85,11 @@ pub one_start : (κs : Lfts 2) (a : ArgsD signature-start κs) (r r' : ResD sign
     → Post-start κs a r s → Post-start κs a r' s' → r ≡ r'
 one_start κs a r r' s s' p q = p ∙ sym q
 
-pub one_piece : (κs : Lfts 2) (a : ArgsD signature-piece κs) (r r' : ResD signature-piece κs) (s s' : AtExit (ended_of 2 kinds-piece.ps kinds-piece.r) κs)
+pub one_piece : (κs : Lfts 3) (a : ArgsD signature-piece κs) (r r' : ResD signature-piece κs) (s s' : AtExit (ended_of 3 kinds-piece.ps kinds-piece.r) κs)
     → Post-piece κs a r s → Post-piece κs a r' s' → (r ≡ r') × (s.1.1.1.0.now ≡ s'.1.1.1.0.now)
 one_piece κs a r r' s s' p q = (p.0 ∙ sym q.0, p.1 ∙ sym q.1)
 
-pub one_close : (κs : Lfts 2) (a : ArgsD signature-close κs) (r r' : ResD signature-close κs) (s s' : AtExit (ended_of 2 kinds-close.ps kinds-close.r) κs)
+pub one_close : (κs : Lfts 3) (a : ArgsD signature-close κs) (r r' : ResD signature-close κs) (s s' : AtExit (ended_of 3 kinds-close.ps kinds-close.r) κs)
     → Post-close κs a r s → Post-close κs a r' s' → (r ≡ r') × (s.1.1.1.0.now ≡ s'.1.1.1.0.now)
 one_close κs a r r' s s' p q = (p.0 ∙ sym q.0, p.1 ∙ sym q.1)
 
@@ -105,15 +105,15 @@ pub one_receiver_start : (κs : Lfts 2) (a : ArgsD signature-receiver-start κs)
     → Post-receiver-start κs a r s → Post-receiver-start κs a r' s' → r ≡ r'
 one_receiver_start κs a r r' s s' p q = p ∙ sym q
 
-pub one_receiver_take : (κs : Lfts 3) (a : ArgsD signature-receiver-take κs) (r r' : ResD signature-receiver-take κs) (s s' : AtExit (ended_of 3 kinds-receiver-take.ps kinds-receiver-take.r) κs)
+pub one_receiver_take : (κs : Lfts 4) (a : ArgsD signature-receiver-take κs) (r r' : ResD signature-receiver-take κs) (s s' : AtExit (ended_of 4 kinds-receiver-take.ps kinds-receiver-take.r) κs)
     → Post-receiver-take κs a r s → Post-receiver-take κs a r' s' → (r ≡ r') × (s.1.1.1.1.0.now ≡ s'.1.1.1.1.0.now)
 one_receiver_take κs a r r' s s' p q = (p.0 ∙ sym q.0, p.1 ∙ sym q.1)
 
-pub one_receiver_waiting : (κs : Lfts 0) (a : ArgsD signature-receiver-waiting κs) (r r' : ResD signature-receiver-waiting κs) (s s' : AtExit (ended_of 0 kinds-receiver-waiting.ps kinds-receiver-waiting.r) κs)
+pub one_receiver_waiting : (κs : Lfts 1) (a : ArgsD signature-receiver-waiting κs) (r r' : ResD signature-receiver-waiting κs) (s s' : AtExit (ended_of 1 kinds-receiver-waiting.ps kinds-receiver-waiting.r) κs)
     → Post-receiver-waiting κs a r s → Post-receiver-waiting κs a r' s' → r ≡ r'
 one_receiver_waiting κs a r r' s s' p q = p ∙ sym q
 
-pub one_receiver_put : (κs : Lfts 0) (a : ArgsD signature-receiver-put κs) (r r' : ResD signature-receiver-put κs) (s s' : AtExit (ended_of 0 kinds-receiver-put.ps kinds-receiver-put.r) κs)
+pub one_receiver_put : (κs : Lfts 1) (a : ArgsD signature-receiver-put κs) (r r' : ResD signature-receiver-put κs) (s s' : AtExit (ended_of 1 kinds-receiver-put.ps kinds-receiver-put.r) κs)
     → Post-receiver-put κs a r s → Post-receiver-put κs a r' s' → r ≡ r'
 one_receiver_put κs a r r' s s' p q = p ∙ sym q
 
@@ -121,7 +121,7 @@ pub one_checks : (κs : Lfts 1) (a : ArgsD signature-checks κs) (r r' : ResD si
     → Post-checks κs a r s → Post-checks κs a r' s' → r ≡ r'
 one_checks κs a r r' s s' p q = p ∙ sym q
 
-pub one_put : (κs : Lfts 0) (a : ArgsD signature-put κs) (r r' : ResD signature-put κs) (s s' : AtExit (ended_of 0 kinds-put.ps kinds-put.r) κs)
+pub one_put : (κs : Lfts 1) (a : ArgsD signature-put κs) (r r' : ResD signature-put κs) (s s' : AtExit (ended_of 1 kinds-put.ps kinds-put.r) κs)
     → Post-put κs a r s → Post-put κs a r' s' → r ≡ r'
 one_put κs a r r' s s' p q = p ∙ sym q
 
@@ -144,13 +144,13 @@ module _ (W : RattleType) (L : Laws W) (C : IsCopy W) (word : Word.Ghosts W.Deno
       → Post-at-start W L C word i clone j κs a r s → Post-at-start W L C word i clone j κs a r' s' → r ≡ r'
   one_start_at κs a r r' s s' p q = p ∙ sym q
 
-  pub one_piece_at : (κs : Lfts 3) (a : ArgsD (signature-at-piece W word i clone j) κs) (r r' : ResD (signature-at-piece W word i clone j) κs)
-      (s s' : AtExit (ended_of 3 (kinds-at-piece.ps W L C word i clone j) (kinds-at-piece.r W L C word i clone j)) κs)
+  pub one_piece_at : (κs : Lfts 4) (a : ArgsD (signature-at-piece W word i clone j) κs) (r r' : ResD (signature-at-piece W word i clone j) κs)
+      (s s' : AtExit (ended_of 4 (kinds-at-piece.ps W L C word i clone j) (kinds-at-piece.r W L C word i clone j)) κs)
       → Post-at-piece W L C word i clone j κs a r s → Post-at-piece W L C word i clone j κs a r' s' → (r ≡ r') × (s.1.1.1.0.now ≡ s'.1.1.1.0.now)
   one_piece_at κs a r r' s s' p q = (p.0 ∙ sym q.0, p.1 ∙ sym q.1)
 
-  pub one_close_at : (κs : Lfts 3) (a : ArgsD (signature-at-close W word i clone j) κs) (r r' : ResD (signature-at-close W word i clone j) κs)
-      (s s' : AtExit (ended_of 3 (kinds-at-close.ps W L C word i clone j) (kinds-at-close.r W L C word i clone j)) κs)
+  pub one_close_at : (κs : Lfts 4) (a : ArgsD (signature-at-close W word i clone j) κs) (r r' : ResD (signature-at-close W word i clone j) κs)
+      (s s' : AtExit (ended_of 4 (kinds-at-close.ps W L C word i clone j) (kinds-at-close.r W L C word i clone j)) κs)
       → Post-at-close W L C word i clone j κs a r s → Post-at-close W L C word i clone j κs a r' s' → (r ≡ r') × (s.1.1.1.0.now ≡ s'.1.1.1.0.now)
   one_close_at κs a r r' s s' p q = (p.0 ∙ sym q.0, p.1 ∙ sym q.1)
 
@@ -164,8 +164,8 @@ module _ (W : RattleType) (L : Laws W) (C : IsCopy W) (word : Word.Ghosts W.Deno
       → Post-at-session W L C word i clone j κs a r s → Post-at-session W L C word i clone j κs a r' s' → r ≡ r'
   one_session_at κs a r r' s s' p q = p ∙ sym q
 
-  pub one_put_at : (κs : Lfts 1) (a : ArgsD (signature-at-put W word i clone j) κs) (r r' : ResD (signature-at-put W word i clone j) κs)
-      (s s' : AtExit (ended_of 1 (kinds-at-put.ps W L C word i clone j) (kinds-at-put.r W L C word i clone j)) κs)
+  pub one_put_at : (κs : Lfts 2) (a : ArgsD (signature-at-put W word i clone j) κs) (r r' : ResD (signature-at-put W word i clone j) κs)
+      (s s' : AtExit (ended_of 2 (kinds-at-put.ps W L C word i clone j) (kinds-at-put.r W L C word i clone j)) κs)
       → Post-at-put W L C word i clone j κs a r s → Post-at-put W L C word i clone j κs a r' s' → r ≡ r'
   one_put_at κs a r r' s s' p q = p ∙ sym q
 

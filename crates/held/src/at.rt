@@ -52,9 +52,9 @@ impl<W: Word> HeldAt<W> {
 
     // Offers a piece; a checking session leaves the output alone.
     #[tactic(auto, unfolding(crate::specs::At::piece_at, crate::specs::At::piece_out_at))]
-    pub fn piece(self, label: Label, bytes: &[u8], out: &mut [u8]) -> Close<HeldAt<W>>
-        ensures step { result ≡ piece_at W.width self label bytes.now out.old }
-        ensures output { out.new ≡ piece_out_at W.width self label bytes.now out.old }
+    pub fn piece(&self, label: Label, bytes: &[u8], out: &mut [u8]) -> Close<HeldAt<W>>
+        ensures step { result ≡ piece_at W.width self.now label bytes.now out.old }
+        ensures output { out.new ≡ piece_out_at W.width self.now label bytes.now out.old }
     {
         match self {
             HeldAt::Seals(s) => {
@@ -78,9 +78,9 @@ impl<W: Word> HeldAt<W> {
 
     // Closes: a sealing session writes its tag, a checking session holds its own to the one that is given.
     #[tactic(auto, unfolding(crate::specs::At::close_at, crate::specs::At::close_tag_at))]
-    pub fn close(self, edition: Edition, given: &[u8], tag: &mut [u8]) -> Close<HeldAt<W>>
-        ensures step { result ≡ close_at W.width self edition given.now tag.old }
-        ensures tag { tag.new ≡ close_tag_at W.width self edition tag.old }
+    pub fn close(&self, edition: Edition, given: &[u8], tag: &mut [u8]) -> Close<HeldAt<W>>
+        ensures step { result ≡ close_at W.width self.now edition given.now tag.old }
+        ensures tag { tag.new ≡ close_tag_at W.width self.now edition tag.old }
     {
         match self {
             HeldAt::Seals(s) => {
@@ -131,8 +131,8 @@ impl<W: Word> HeldAt<W> {
     }
 
     // The same session at another place.
-    pub fn put(self, place: Place) -> HeldAt<W>
-        ensures { result ≡ put_at self place }
+    pub fn put(&self, place: Place) -> HeldAt<W>
+        ensures { result ≡ put_at self.now place }
     {
         let Session { state, key, .. } = self.session();
         let session = Session { state, key, place };

@@ -46,9 +46,9 @@ impl Held {
 
     // Offers a piece; a checking session leaves the output alone. It reports no runs.
     #[tactic(auto, unfolding(crate::specs::Held::held_piece, crate::specs::Held::held_piece_out))]
-    pub fn piece(self, label: Label, bytes: &[u8], out: &mut [u8]) -> Close<Held>
-        ensures step { result ≡ held_piece self label bytes.now out.old }
-        ensures output { out.new ≡ held_piece_out self label bytes.now out.old }
+    pub fn piece(&self, label: Label, bytes: &[u8], out: &mut [u8]) -> Close<Held>
+        ensures step { result ≡ held_piece self.now label bytes.now out.old }
+        ensures output { out.new ≡ held_piece_out self.now label bytes.now out.old }
     {
         match self {
             Held::Narrow(h) => with_narrow(h.piece(label, bytes, out)),
@@ -58,9 +58,9 @@ impl Held {
 
     // Closes: a sealing session writes its tag, a checking session holds its own to the one that is given.
     #[tactic(auto, unfolding(crate::specs::Held::held_close, crate::specs::Held::held_tag))]
-    pub fn close(self, edition: Edition, given: &[u8], tag: &mut [u8]) -> Close<Held>
-        ensures step { result ≡ held_close self edition given.now tag.old }
-        ensures tag { tag.new ≡ held_tag self edition tag.old }
+    pub fn close(&self, edition: Edition, given: &[u8], tag: &mut [u8]) -> Close<Held>
+        ensures step { result ≡ held_close self.now edition given.now tag.old }
+        ensures tag { tag.new ≡ held_tag self.now edition tag.old }
     {
         match self {
             Held::Narrow(h) => with_narrow(h.close(edition, given, tag)),
@@ -99,8 +99,8 @@ impl Held {
     }
 
     // The same session at another place.
-    pub fn put(self, place: Place) -> Held
-        ensures { result ≡ held_put self place }
+    pub fn put(&self, place: Place) -> Held
+        ensures { result ≡ held_put self.now place }
     {
         match self {
             Held::Narrow(h) => Held::Narrow(h.put(place)),

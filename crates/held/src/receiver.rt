@@ -48,9 +48,9 @@ impl HeldReceiver {
 
     // Takes the segment that it waits for.
     #[tactic(auto, unfolding(crate::specs::Receivers::held_taken, crate::specs::Receivers::held_taken_out))]
-    pub fn take(self, note: &[u8], last: bool, sealed: &[u8], out: &mut [u8]) -> HeldReceiverStep
-        ensures step { result ≡ held_taken self note.now last sealed.now out.old }
-        ensures output { out.new ≡ held_taken_out self note.now last sealed.now out.old }
+    pub fn take(&self, note: &[u8], last: bool, sealed: &[u8], out: &mut [u8]) -> HeldReceiverStep
+        ensures step { result ≡ held_taken self.now note.now last sealed.now out.old }
+        ensures output { out.new ≡ held_taken_out self.now note.now last sealed.now out.old }
     {
         match self {
             HeldReceiver::Narrow(r) => {
@@ -81,8 +81,8 @@ impl HeldReceiver {
     }
 
     // Which segment it waits for, and whether it is complete.
-    pub fn waiting(self) -> Waiting
-        ensures { result ≡ held_waiting self }
+    pub fn waiting(&self) -> Waiting
+        ensures { result ≡ held_waiting self.now }
     {
         match self {
             HeldReceiver::Narrow(r) => r.waiting,
@@ -91,10 +91,10 @@ impl HeldReceiver {
     }
 
     // The same, waiting elsewhere and with other rounds.
-    pub fn put(self, waiting: Waiting, rounds: u32) -> HeldReceiver
-        ensures { result ≡ held_put self waiting rounds }
+    pub fn put(&self, waiting: Waiting, rounds: u32) -> HeldReceiver
+        ensures { result ≡ held_put self.now waiting rounds }
     {
-        match self {
+        match *self {
             HeldReceiver::Narrow(mut r) => {
                 r.waiting = waiting;
                 r.terms.rounds = rounds;

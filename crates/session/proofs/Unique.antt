@@ -38,13 +38,13 @@ module _ (W : RattleType) (L : Laws W) (C : IsCopy W) (word : Word.Ghosts W.Deno
       → Post-seal-Sealing-start W L C word i clone j κs a r s → Post-seal-Sealing-start W L C word i clone j κs a r' s' → r ≡ r'
   one_sealing_start κs a r r' s s' p q = p ∙ sym q
 
-  pub one_sealing_piece : (κs : Lfts 3) (a : ArgsD (signature-seal-Sealing-piece W word i clone j) κs) (r r' : ResD (signature-seal-Sealing-piece W word i clone j) κs)
-      (s s' : AtExit (ended_of 3 (kinds-seal-Sealing-piece.ps W L C word i clone j) (kinds-seal-Sealing-piece.r W L C word i clone j)) κs)
+  pub one_sealing_piece : (κs : Lfts 4) (a : ArgsD (signature-seal-Sealing-piece W word i clone j) κs) (r r' : ResD (signature-seal-Sealing-piece W word i clone j) κs)
+      (s s' : AtExit (ended_of 4 (kinds-seal-Sealing-piece.ps W L C word i clone j) (kinds-seal-Sealing-piece.r W L C word i clone j)) κs)
       → Post-seal-Sealing-piece W L C word i clone j κs a r s → Post-seal-Sealing-piece W L C word i clone j κs a r' s' → (r ≡ r') × (s.1.1.1.0.now ≡ s'.1.1.1.0.now)
   one_sealing_piece κs a r r' s s' p q = (p.0 ∙ sym q.0, p.1 ∙ sym q.1)
 
-  pub one_sealing_close : (κs : Lfts 2) (a : ArgsD (signature-seal-Sealing-close W word i clone j) κs) (r r' : ResD (signature-seal-Sealing-close W word i clone j) κs)
-      (s s' : AtExit (ended_of 2 (kinds-seal-Sealing-close.ps W L C word i clone j) (kinds-seal-Sealing-close.r W L C word i clone j)) κs)
+  pub one_sealing_close : (κs : Lfts 3) (a : ArgsD (signature-seal-Sealing-close W word i clone j) κs) (r r' : ResD (signature-seal-Sealing-close W word i clone j) κs)
+      (s s' : AtExit (ended_of 3 (kinds-seal-Sealing-close.ps W L C word i clone j) (kinds-seal-Sealing-close.r W L C word i clone j)) κs)
       → Post-seal-Sealing-close W L C word i clone j κs a r s → Post-seal-Sealing-close W L C word i clone j κs a r' s' → (r ≡ r') × (s.1.1.0.now ≡ s'.1.1.0.now)
   one_sealing_close κs a r r' s s' p q = (p.0 ∙ sym q.0, p.1 ∙ sym q.1)
 
@@ -53,13 +53,13 @@ module _ (W : RattleType) (L : Laws W) (C : IsCopy W) (word : Word.Ghosts W.Deno
       → Post-check-Checking-start W L C word i clone j κs a r s → Post-check-Checking-start W L C word i clone j κs a r' s' → r ≡ r'
   one_checking_start κs a r r' s s' p q = p ∙ sym q
 
-  pub one_checking_piece : (κs : Lfts 2) (a : ArgsD (signature-check-Checking-piece W word i clone j) κs) (r r' : ResD (signature-check-Checking-piece W word i clone j) κs)
-      (s s' : AtExit (ended_of 2 (kinds-check-Checking-piece.ps W L C word i clone j) (kinds-check-Checking-piece.r W L C word i clone j)) κs)
+  pub one_checking_piece : (κs : Lfts 3) (a : ArgsD (signature-check-Checking-piece W word i clone j) κs) (r r' : ResD (signature-check-Checking-piece W word i clone j) κs)
+      (s s' : AtExit (ended_of 3 (kinds-check-Checking-piece.ps W L C word i clone j) (kinds-check-Checking-piece.r W L C word i clone j)) κs)
       → Post-check-Checking-piece W L C word i clone j κs a r s → Post-check-Checking-piece W L C word i clone j κs a r' s' → r ≡ r'
   one_checking_piece κs a r r' s s' p q = p ∙ sym q
 
-  pub one_checking_close : (κs : Lfts 2) (a : ArgsD (signature-check-Checking-close W word i clone j) κs) (r r' : ResD (signature-check-Checking-close W word i clone j) κs)
-      (s s' : AtExit (ended_of 2 (kinds-check-Checking-close.ps W L C word i clone j) (kinds-check-Checking-close.r W L C word i clone j)) κs)
+  pub one_checking_close : (κs : Lfts 3) (a : ArgsD (signature-check-Checking-close W word i clone j) κs) (r r' : ResD (signature-check-Checking-close W word i clone j) κs)
+      (s s' : AtExit (ended_of 3 (kinds-check-Checking-close.ps W L C word i clone j) (kinds-check-Checking-close.r W L C word i clone j)) κs)
       → Post-check-Checking-close W L C word i clone j κs a r s → Post-check-Checking-close W L C word i clone j κs a r' s' → r ≡ r'
   one_checking_close κs a r r' s s' p q = p ∙ sym q
 

@@ -46,10 +46,10 @@ impl<W: Word> Checking<W> {
     }
 
     // Takes a piece in, or refuses it and changes nothing; a body piece is ciphertext.
-    pub fn piece(self, label: Label, bytes: &[u8]) -> Step<Checking<W>>
-        ensures { result ≡ piece_of (checking_of W W.width) self label bytes.now [] }
+    pub fn piece(&self, label: Label, bytes: &[u8]) -> Step<Checking<W>>
+        ensures { result ≡ piece_of (checking_of W W.width) self.now label bytes.now [] }
     {
-        let place = self.0.place;
+        let Session { state, key, place } = self.0;
         let part = label.part;
         let n = bytes.len();
         // A check has no output that could have a wrong length.
@@ -58,12 +58,12 @@ impl<W: Word> Checking<W> {
         if answer.is_err() {
             return Step {
                 answer,
-                session: self,
+                session: *self,
             };
         }
         let session = Session {
-            state: taken_at(self.0.state, place, part, bytes),
-            key: self.0.key,
+            state: taken_at(state, place, part, bytes),
+            key,
             place: after(place, part, n),
         };
         Step {
@@ -73,8 +73,8 @@ impl<W: Word> Checking<W> {
     }
 
     // Compares the whole tag and gives back the closed session, or refuses and changes nothing.
-    pub fn close(self, edition: Edition, tag: &[u8]) -> Close<Checking<W>>
-        ensures { result ≡ close_with (close_of (checking_of W W.width) self edition tag.now) (close_runs (checking_of W W.width) self edition tag.now) }
+    pub fn close(&self, edition: Edition, tag: &[u8]) -> Close<Checking<W>>
+        ensures { result ≡ close_with (close_of (checking_of W W.width) self.now edition tag.now) (close_runs (checking_of W W.width) self.now edition tag.now) }
     {
         let n = runs_of::<W>(self.0.place);
         let Step { answer, session } = self.closing(edition, tag);
@@ -86,19 +86,19 @@ impl<W: Word> Checking<W> {
     }
 
     // The answer of a close, and the session then.
-    fn closing(self, edition: Edition, tag: &[u8]) -> Step<Checking<W>>
-        ensures { result ≡ close_of (checking_of W W.width) self edition tag.now }
+    fn closing(&self, edition: Edition, tag: &[u8]) -> Step<Checking<W>>
+        ensures { result ≡ close_of (checking_of W W.width) self.now edition tag.now }
     {
-        let place = self.0.place;
+        let Session { state, key, place } = self.0;
         let answer = close_answer(place, edition, row_bytes::<W>(), tag.len());
         if answer.is_err() {
             return Step {
                 answer,
-                session: self,
+                session: *self,
             };
         }
-        let ended = readied(self.0.state, place, BEHIND_ALL);
-        let own = tag_is(place.terms.rounds, self.0.key, ended, tag);
+        let ended = readied(state, place, BEHIND_ALL);
+        let own = tag_is(place.terms.rounds, key, ended, tag);
         Step {
             answer: need(own, Refusal::TagDiffers),
             session: Checking(Session::closed()),

@@ -1,4 +1,4 @@
-// Sealing and checking in pieces, at either width: a session for one edition of a job, which goes in and comes back by value.
+// Sealing and checking in pieces, at either width: a session for one edition of a job. A call is lent one, and the next comes back by value.
 #![tactic(auto)]
 
 pub mod check;

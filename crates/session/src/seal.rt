@@ -47,23 +47,23 @@ impl<W: Word> Sealing<W> {
     }
 
     // Takes a piece in, or refuses it and changes nothing. The output of a body piece is as long as the piece, and takes its ciphertext; that of any other piece has no bytes.
-    pub fn piece(self, label: Label, bytes: &[u8], out: &mut [u8]) -> Step<Sealing<W>>
-        ensures step { result ≡ piece_of (sealing_of W W.width) self label bytes.now out.old }
-        ensures output { out.new ≡ piece_out (sealing_of W W.width) self label bytes.now out.old }
+    pub fn piece(&self, label: Label, bytes: &[u8], out: &mut [u8]) -> Step<Sealing<W>>
+        ensures step { result ≡ piece_of (sealing_of W W.width) self.now label bytes.now out.old }
+        ensures output { out.new ≡ piece_out (sealing_of W W.width) self.now label bytes.now out.old }
     {
-        let place = self.0.place;
+        let Session { state, key, place } = self.0;
         let part = label.part;
         let n = bytes.len();
         let answer = piece_answer(place, label, n, exact(part, n, out.len()));
         if answer.is_err() {
             return Step {
                 answer,
-                session: self,
+                session: *self,
             };
         }
         let session = Session {
-            state: taken_at(self.0.state, place, part, bytes, out),
-            key: self.0.key,
+            state: taken_at(state, place, part, bytes, out),
+            key,
             place: after(place, part, n),
         };
         Step {
@@ -73,9 +73,9 @@ impl<W: Word> Sealing<W> {
     }
 
     // Writes the tag and gives back the closed session, or refuses and changes nothing.
-    pub fn close(self, edition: Edition, tag: &mut [u8]) -> Close<Sealing<W>>
-        ensures step { result ≡ close_with (close_of (sealing_of W W.width) self edition tag.old) (close_runs (sealing_of W W.width) self edition tag.old) }
-        ensures tag { tag.new ≡ close_tag (sealing_of W W.width) self edition tag.old }
+    pub fn close(&self, edition: Edition, tag: &mut [u8]) -> Close<Sealing<W>>
+        ensures step { result ≡ close_with (close_of (sealing_of W W.width) self.now edition tag.old) (close_runs (sealing_of W W.width) self.now edition tag.old) }
+        ensures tag { tag.new ≡ close_tag (sealing_of W W.width) self.now edition tag.old }
     {
         let n = runs_of::<W>(self.0.place);
         let Step { answer, session } = self.closing(edition, tag);
@@ -87,20 +87,20 @@ impl<W: Word> Sealing<W> {
     }
 
     // The answer of a close, and the session then.
-    fn closing(self, edition: Edition, tag: &mut [u8]) -> Step<Sealing<W>>
-        ensures step { result ≡ close_of (sealing_of W W.width) self edition tag.old }
-        ensures tag { tag.new ≡ close_tag (sealing_of W W.width) self edition tag.old }
+    fn closing(&self, edition: Edition, tag: &mut [u8]) -> Step<Sealing<W>>
+        ensures step { result ≡ close_of (sealing_of W W.width) self.now edition tag.old }
+        ensures tag { tag.new ≡ close_tag (sealing_of W W.width) self.now edition tag.old }
     {
-        let place = self.0.place;
+        let Session { state, key, place } = self.0;
         let answer = close_answer(place, edition, row_bytes::<W>(), tag.len());
         if answer.is_err() {
             return Step {
                 answer,
-                session: self,
+                session: *self,
             };
         }
-        let ended = readied(self.0.state, place, BEHIND_ALL);
-        write_tag(place.terms.rounds, self.0.key, ended, tag);
+        let ended = readied(state, place, BEHIND_ALL);
+        write_tag(place.terms.rounds, key, ended, tag);
         Step {
             answer: Ok(()),
             session: Sealing(Session::closed()),

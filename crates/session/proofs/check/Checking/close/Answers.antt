@@ -16,5 +16,5 @@ returns g c =
     let x = c.args in
     let step = c.closing-answer.ensures in
     ap₂ (λ (t : Step (Checking X)) (n : ℕ). close_with t n) step
-    (close_reports (checking_of X w) (lawful_checking X w) x.self x.edition x.tag.now (ap (λ (t : Step (Checking X)). t.answer) step)
+    (close_reports (checking_of X w) (lawful_checking X w) x.self.now x.edition x.tag.now (ap (λ (t : Step (Checking X)). t.answer) step)
     refl c.runs_of-n.ensures (ap (λ (o : Outcome). o.runs) c.reported.ensures))

@@ -18,44 +18,44 @@ readied-ended-requires g c =
     let w = g.W.Word.width in
     let K = checking_of g.row.W.Denot w in
     let x = c.args in
-    let found : CloseFound K x.self x.edition x.tag.now = record {
+    let found : CloseFound K x.self.now x.edition x.tag.now = record {
       place = _;
       answer = _;
       place_is = refl;
       answer_is = rw (c.row_bytes.ensures, sym (tag_is_row w)) at c.close_answer-answer.ensures;
     } in
     let done = found_done c.close_answer-answer.result c.is_err.ensures.value c.if-is_err.false in
-    let fits = close_fits K x.self x.edition x.tag.now found done in (fits.0, fits.1)
+    let fits = close_fits K x.self.now x.edition x.tag.now found done in (fits.0, fits.1)
 
 pub returns : goal.returns
 returns g c =
     let w = g.W.Word.width in
     let K = checking_of g.row.W.Denot w in
     let x = c.args in
-    let found : CloseFound K x.self x.edition x.tag.now = record {
+    let found : CloseFound K x.self.now x.edition x.tag.now = record {
       place = _;
       answer = _;
       place_is = refl;
       answer_is = rw (c.row_bytes.ensures, sym (tag_is_row w)) at c.close_answer-answer.ensures;
     } in
     let done = found_done c.close_answer-answer.result c.is_err.ensures.value c.if-is_err.false in
-    let p = x.self.0.place in
-    let asked = rounds_asked w p.terms.rounds (close_fits K x.self x.edition x.tag.now found done).1 in
-    let made : TagMade K x.self p = record { tag = _; tag_is = refl } in
+    let p = x.self.now.0.place in
+    let asked = rounds_asked w p.terms.rounds (close_fits K x.self.now x.edition x.tag.now found done).1 in
+    let made : TagMade K x.self.now p = record { tag = _; tag_is = refl } in
     let own =
-    rw asked at c.tag_is-own.ensures ∙ ap (λ (s : State). same x.tag.now (tag_of w p.terms.rounds (tag_bits w) x.self.0.key s)) c.readied-ended.ensures in
+    rw asked at c.tag_is-own.ensures ∙ ap (λ (s : State). same x.tag.now (tag_of w p.terms.rounds (tag_bits w) x.self.now.0.key s)) c.readied-ended.ensures in
     let verdict = c.need.ensures ∙ ap (λ (b : Bool). need_of b TagDiffers (Ok tt)) own in
-    close_done K x.self x.edition x.tag.now found done made _ _ verdict (ap (λ (s : Session g.row.W.Denot). record { 0 = s }) c.closed.ensures)
+    close_done K x.self.now x.edition x.tag.now found done made _ _ verdict (ap (λ (s : Session g.row.W.Denot). record { 0 = s }) c.closed.ensures)
 
 pub returns-then-is_err : goal.returns-then-is_err
 returns-then-is_err g c =
     let w = g.W.Word.width in
     let K = checking_of g.row.W.Denot w in
     let x = c.args in
-    let found : CloseFound K x.self x.edition x.tag.now = record {
+    let found : CloseFound K x.self.now x.edition x.tag.now = record {
       place = _;
       answer = _;
       place_is = refl;
       answer_is = rw (c.row_bytes.ensures, sym (tag_is_row w)) at c.close_answer-answer.ensures;
     } in
-    close_kept K x.self x.edition x.tag.now found (found_refused c.close_answer-answer.result c.is_err.ensures.value c.if-is_err.true)
+    close_kept K x.self.now x.edition x.tag.now found (found_refused c.close_answer-answer.result c.is_err.ensures.value c.if-is_err.true)

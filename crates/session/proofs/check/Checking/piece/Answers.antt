@@ -9,7 +9,7 @@ pub taken_at-requires : goal.taken_at-requires
 taken_at-requires g c =
     let K = checking_of g.row.W.Denot g.W.Word.width in
     let x = c.args in
-    let found : PieceFound K x.self x.label x.bytes.now [] = record {
+    let found : PieceFound K x.self.now x.label x.bytes.now [] = record {
       place = _;
       exact = _;
       answer = _;
@@ -17,13 +17,13 @@ taken_at-requires g c =
       exact_is = refl;
       answer_is = c.piece_answer-answer.ensures;
     } in
-    piece_accepted K x.self x.label x.bytes.now [] found (found_done c.piece_answer-answer.result c.is_err.ensures.value c.if-is_err.false)
+    piece_accepted K x.self.now x.label x.bytes.now [] found (found_done c.piece_answer-answer.result c.is_err.ensures.value c.if-is_err.false)
 
 pub returns : goal.returns
 returns g c =
     let K = checking_of g.row.W.Denot g.W.Word.width in
     let x = c.args in
-    let found : PieceFound K x.self x.label x.bytes.now [] = record {
+    let found : PieceFound K x.self.now x.label x.bytes.now [] = record {
       place = _;
       exact = _;
       answer = _;
@@ -31,7 +31,7 @@ returns g c =
       exact_is = refl;
       answer_is = c.piece_answer-answer.ensures;
     } in
-    let made : PieceMade K x.self x.label x.bytes.now x.self.0.place = record {
+    let made : PieceMade K x.self.now x.label x.bytes.now x.self.now.0.place = record {
       state = _;
       place = _;
       session = _;
@@ -39,13 +39,13 @@ returns g c =
       place_is = c.after.ensures;
       session_is = refl;
     } in
-    piece_taken K x.self x.label x.bytes.now [] found (found_done c.piece_answer-answer.result c.is_err.ensures.value c.if-is_err.false) made
+    piece_taken K x.self.now x.label x.bytes.now [] found (found_done c.piece_answer-answer.result c.is_err.ensures.value c.if-is_err.false) made
 
 pub returns-then-is_err : goal.returns-then-is_err
 returns-then-is_err g c =
     let K = checking_of g.row.W.Denot g.W.Word.width in
     let x = c.args in
-    let found : PieceFound K x.self x.label x.bytes.now [] = record {
+    let found : PieceFound K x.self.now x.label x.bytes.now [] = record {
       place = _;
       exact = _;
       answer = _;
@@ -53,4 +53,4 @@ returns-then-is_err g c =
       exact_is = refl;
       answer_is = c.piece_answer-answer.ensures;
     } in
-    piece_kept K x.self x.label x.bytes.now [] found (found_refused c.piece_answer-answer.result c.is_err.ensures.value c.if-is_err.true)
+    piece_kept K x.self.now x.label x.bytes.now [] found (found_refused c.piece_answer-answer.result c.is_err.ensures.value c.if-is_err.true)

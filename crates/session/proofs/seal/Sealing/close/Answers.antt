@@ -16,5 +16,5 @@ returns-clause-step g c =
     let x = c.args in
     let step = c.closing-answer.ensures.step in
     ap₂ (λ (t : Step (Sealing X)) (n : ℕ). close_with t n) step
-    (close_reports (sealing_of X w) (lawful_sealing X w) x.self x.edition x.tag.now (ap (λ (t : Step (Sealing X)). t.answer) step)
+    (close_reports (sealing_of X w) (lawful_sealing X w) x.self.now x.edition x.tag.now (ap (λ (t : Step (Sealing X)). t.answer) step)
     refl c.runs_of-n.ensures (ap (λ (o : Outcome). o.runs) c.reported.ensures))

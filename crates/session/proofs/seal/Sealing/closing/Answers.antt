@@ -17,37 +17,37 @@ readied-ended-requires g c =
     let w = g.W.Word.width in
     let K = sealing_of g.row.W.Denot w in
     let x = c.args in
-    let found : CloseFound K x.self x.edition x.tag.now = record {
+    let found : CloseFound K x.self.now x.edition x.tag.now = record {
       place = _;
       answer = _;
       place_is = refl;
       answer_is = rw (c.row_bytes.ensures, sym (tag_is_row w)) at c.close_answer-answer.ensures;
     } in
     let done = found_done c.close_answer-answer.result c.is_err.ensures.value c.if-is_err.false in
-    let fits = close_fits K x.self x.edition x.tag.now found done in (fits.0, fits.1)
+    let fits = close_fits K x.self.now x.edition x.tag.now found done in (fits.0, fits.1)
 
 pub returns : goal.returns
 returns g c =
     let w = g.W.Word.width in
     let K = sealing_of g.row.W.Denot w in
     let x = c.args in
-    let found : CloseFound K x.self x.edition x.tag.now = record {
+    let found : CloseFound K x.self.now x.edition x.tag.now = record {
       place = _;
       answer = _;
       place_is = refl;
       answer_is = rw (c.row_bytes.ensures, sym (tag_is_row w)) at c.close_answer-answer.ensures;
     } in
     let done = found_done c.close_answer-answer.result c.is_err.ensures.value c.if-is_err.false in
-    let p = x.self.0.place in
-    let fits = close_fits K x.self x.edition x.tag.now found done in
+    let p = x.self.now.0.place in
+    let fits = close_fits K x.self.now x.edition x.tag.now found done in
     let asked = rounds_asked w p.terms.rounds fits.1 in
-    let made : TagMade K x.self p = record { tag = _; tag_is = refl } in
+    let made : TagMade K x.self.now p = record { tag = _; tag_is = refl } in
     let whole = eq-eqb (length x.tag.now) (tag_bytes w) fits.2 in
     let written =
-    rw (asked, whole) at c.tag.ensures ∙ ap (λ (s : State). tag_of w p.terms.rounds (tag_bits w) x.self.0.key s) c.readied-ended.ensures in
+    rw (asked, whole) at c.tag.ensures ∙ ap (λ (s : State). tag_of w p.terms.rounds (tag_bits w) x.self.now.0.key s) c.readied-ended.ensures in
     record {
-      step = close_done K x.self x.edition x.tag.now found done made _ _ refl (ap (λ (s : Session g.row.W.Denot). record { 0 = s }) c.closed.ensures);
-      tag = written ∙ close_tag_lem K x.self x.edition x.tag.now found done made;
+      step = close_done K x.self.now x.edition x.tag.now found done made _ _ refl (ap (λ (s : Session g.row.W.Denot). record { 0 = s }) c.closed.ensures);
+      tag = written ∙ close_tag_lem K x.self.now x.edition x.tag.now found done made;
     }
 
 pub returns-then-is_err : goal.returns-then-is_err
@@ -55,7 +55,7 @@ returns-then-is_err g c =
     let w = g.W.Word.width in
     let K = sealing_of g.row.W.Denot w in
     let x = c.args in
-    let found : CloseFound K x.self x.edition x.tag.now = record {
+    let found : CloseFound K x.self.now x.edition x.tag.now = record {
       place = _;
       answer = _;
       place_is = refl;
@@ -63,6 +63,6 @@ returns-then-is_err g c =
     } in
     let not_done = found_refused c.close_answer-answer.result c.is_err.ensures.value c.if-is_err.true in
     record {
-      step = close_kept K x.self x.edition x.tag.now found not_done;
-      tag = close_left K x.self x.edition x.tag.now found not_done;
+      step = close_kept K x.self.now x.edition x.tag.now found not_done;
+      tag = close_left K x.self.now x.edition x.tag.now found not_done;
     }
