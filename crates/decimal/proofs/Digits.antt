@@ -10,8 +10,6 @@ use lib.Dec.{lit<}
 use lib.ListN.{length, take, length-append}
 use lib.Seq.{take-append-le, take_all}
 use borrow.Author.Tests.{lt-ltb, le-ltb}
-use Rattle.std.specs.Prelude.{Option, Some, None}
-use Rattle.std.specs.Option.{IfNone, IfSome, unwrap_or}
 use Rattle.std.proofs.lemmas.Bool.{cases_lt}
 use Rattle.std.specs.List.{All}
 use Rattle.std.proofs.lemmas.List.Elements.{All-nil, All-cons, All-push}
@@ -89,13 +87,9 @@ length_from_power (suc k) n h =
     power_some zero = omega arith
     power_some (suc k) = omega (arith, pow-suc 10 k, power_some k)
 
+-- so the logarithm says how many
 pub length_log : (k n : ℕ) → 10 ^ k ≤ n → n < 10 * 10 ^ k → length (num_text n) ≡ k + 1
 length_log k n from to = omega (arith, length_from_power k n from, length_below k n (omega (arith, pow-suc 10 k)))
-
--- what the logarithm says, which 0 has not
-pub log_length : (n : ℕ) (r : Option ℕ) → IfNone r (n ≡ 0) → IfSome r (λ k. 10 ^ k ≤ n) → IfSome r (λ k. n < 10 * 10 ^ k) → unwrap_or r 0 + 1 ≡ length (num_text n)
-log_length n (Some k) none from to = sym (length_log k n from to)
-log_length n None none from to = sym (length_small n (omega (arith, none)))
 
 -- every byte is a digit's
 abbrev pub Digit : ℕ → Type 0

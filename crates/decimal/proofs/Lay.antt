@@ -67,25 +67,30 @@ put_full x at l h = (rw (lt-leb (at + length x) (length l) h), rw (lt-leb (at + 
 
 -- the first i bytes are for the text of v, and with that they are n's
 pub record Left (n v i : ℕ) (out : List ℕ) : Type 0 where
-  pub some : 1 ≤ i → (length (num_text v) ≡ i) × (num_text v ++ drop i out ≡ num_text n)
-  pub none : i ≡ 0 → out ≡ num_text n
+  pub long : length (num_text v) ≡ i
+  pub text : num_text v ++ drop i out ≡ num_text n
 
-pub one_less : (n v i : ℕ) (out : List ℕ) → Left n v i out → 0 < i → i ≤ length out → Left n (v / 10) (i - 1) (set out (i - 1) (digit (v % 10)))
+pub one_less : (n v i : ℕ) (out : List ℕ) → Left n v i out → 1 < i → i ≤ length out → Left n (v / 10) (i - 1) (set out (i - 1) (digit (v % 10)))
 one_less n v i out left h within =
-    let was = left.some h in
     let b : ℕ = digit (v % 10) in
     let s : set out (i - 1) (digit (v % 10)) ≡ take (i - 1) out ++ (digit (v % 10) ∷ drop (suc (i - 1)) out) = set_split out (i - 1) b (omega arith) in
     let next : suc (i - 1) ≡ i = omega arith in
     let d : drop (i - 1) (set out (i - 1) (digit (v % 10))) ≡ digit (v % 10) ∷ drop i out =
     ap (drop (i - 1)) s ∙ drop_at (take (i - 1) out) (b ∷ drop (suc (i - 1)) out) (i - 1) (length-take-le (i - 1) out (omega arith)) ∙ ap (λ (k : ℕ). digit (v % 10) ∷ drop k out) next in
-    ⊎_elim
-    (λ (one : v < 10).
-    let same : v % 10 ≡ v = omega arith in
-    let e : i ≡ 1 = omega (arith, was.0, length_small v one) in
-    record { some = λ p. absurd (omega (arith, e)); none = λ z. ap (λ (k : ℕ). set out k (digit (v % 10))) z ∙ set_split out 0 (digit (v % 10)) (omega arith) ∙ ap₂ (λ (k m : ℕ). digit k ∷ drop m out) same (sym e) ∙ ap (λ (l : List ℕ). l ++ drop i out) (sym (num_small v one)) ∙ was.1 })
+    ⊎_elim (λ (one : v < 10). absurd (omega (arith, left.long, length_small v one)))
     (λ (more : 10 ≤ v).
-    let e : length (num_text (v / 10)) ≡ i - 1 = omega (arith, was.0, length_more v more) in
     record {
-      some = λ p. (e, ap (λ (l : List ℕ). num_text (v / 10) ++ l) d ∙ sym (append_assoc (num_text (v / 10)) (b ∷ []) (drop i out)) ∙ ap (λ (l : List ℕ). l ++ drop i out) (sym (num_more v more)) ∙ was.1);
-      none = λ z. absurd (omega (arith, e, length_pos (v / 10)));
+      long = omega (arith, left.long, length_more v more);
+      text = ap (λ (l : List ℕ). num_text (v / 10) ++ l) d ∙ sym (append_assoc (num_text (v / 10)) (b ∷ []) (drop i out)) ∙ ap (λ (l : List ℕ). l ++ drop i out) (sym (num_more v more)) ∙ left.text;
     }) (cases_lt v 10)
+
+-- the first digit, which is all that is left
+pub last_small : (n v i : ℕ) (out : List ℕ) → Left n v i out → i ≤ 1 → v < 10
+last_small n v i out left h =
+    ⊎_elim (λ (one : v < 10). one) (λ (more : 10 ≤ v). absurd (omega (arith, left.long, length_more v more, length_pos (v / 10)))) (cases_lt v 10)
+
+pub last_laid : (n v i : ℕ) (out : List ℕ) → Left n v i out → i ≤ 1 → 0 < length out → set out 0 (digit v) ≡ num_text n
+last_laid n v i out left h some =
+    let small : v < 10 = last_small n v i out left h in
+    let one : 1 ≡ i = omega (arith, left.long, length_small v small) in
+    set_split out 0 (digit v) some ∙ ap (λ (m : ℕ). digit v ∷ drop m out) one ∙ ap (λ (l : List ℕ). l ++ drop i out) (sym (num_small v small)) ∙ left.text

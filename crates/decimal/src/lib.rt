@@ -53,7 +53,10 @@ fn one_more(v: u64, d: u64) -> Option<u64>
 pub fn number_length(n: u64) -> usize
     ensures { (result ≡ length (num_text n)) × (result ≤ 20) }
 {
-    n.checked_ilog10().unwrap_or(0) as usize + 1
+    if n < 10 {
+        return 1;
+    }
+    n.ilog10() as usize + 1
 }
 
 // Writes the text of a number at a place, and gives the place behind it; where there is no room for it, nothing is changed, and the place is given back.
@@ -76,8 +79,9 @@ fn lay_digits(n: u64, out: &mut [u8])
     ensures { out.new ≡ num_text n }
 {
     let mut v = n;
-    for i in (0..out.len()).rev() {
+    for i in (1..out.len()).rev() {
         out[i] = b'0' + (v % 10) as u8;
         v /= 10;
     }
+    out[0] = b'0' + v as u8;
 }

@@ -1,16 +1,14 @@
--- `decimal::number_length`: one more than the logarithm, and one where there is none.
-use mathlib.Core.Path.{◌≡◌, ap, ◌∙◌}
-use Prim.Native.Nat.{ℕ, ◌+◌}
+-- `decimal::number_length`: one digit, or one more than the logarithm.
+use mathlib.Core.Path.{sym}
 use native.Mathlib.Omega.{arith}
-use native.Mathlib.Nat.{lt_of_lt_of_le}
-use lib.Dec.{lit≤}
-use lib.ListN.{length}
-use Rattle.decimal.specs.Decimal.{num_text}
-use Rattle.decimal.proofs.Digits.{log_length, length_below}
+use Rattle.decimal.proofs.Digits.{length_small, length_log}
 use Rattle.decimal.proofs.number_length.Goals as goal
+
+pub returns-then-n-lt10 : goal.returns-then-n-lt10
+returns-then-n-lt10 c = (sym (length_small c.args.n c.if-n-lt10.true), omega arith)
 
 pub returns : goal.returns
 returns c =
-    let log = c.checked_ilog10.ensures in
-    let long : c.unwrap_or.result + 1 ≡ length (num_text c.args.n) = ap (λ (k : ℕ). k + 1) c.unwrap_or.ensures ∙ log_length c.args.n _ log.none log.power_le log.next_power_gt in
-    (long, omega (arith, long, length_below 19 c.args.n (lt_of_lt_of_le c.ranges.n.fits (lit≤ tt))))
+    let log = c.ilog10.ensures in
+    let long = length_log c.ilog10.result c.args.n log.power_le log.next_power_gt in
+    (omega (arith, long), omega (arith, log.bound))
