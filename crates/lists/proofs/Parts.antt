@@ -11,8 +11,7 @@ use lib.Dec.{ltb, eqb}
 use lib.ListN.{length, take, drop, get_or, length-append, length-drop}
 use lib.Seq.{drop-cons, drop-drop, get_or-drop, get_or-append_seam, length-take-le, drop_at}
 use Rattle.std.specs.Prelude.{Option, Some, None}
-use Rattle.std.specs.Option.{MatchOption, option_eq}
-use Rattle.std.specs.List.{HoldsAt, starts_with}
+use Rattle.std.specs.List.{starts_with}
 use Rattle.std.proofs.lemmas.Bool.Decides.{Decides-eqb}
 use Rattle.std.proofs.lemmas.List.{take_rest}
 use Rattle.std.proofs.lemmas.Slice.Eq.{starts_is}
@@ -41,12 +40,14 @@ unfolding ended_by
 ended_by_lem t at stop h e =
     and_true (ltb at (length t)) (eqb (get_or t at 0) stop) (lt-ltb at (length t) h) (eq-eqb (get_or t at 0) stop e)
 
--- what the code looks up and compares
-pub ended_at : {B : Type 0} (now : B → ℕ) (t : List ℕ) (at stop : ℕ) (r : Option B) → MatchOption r (length t ≤ at) (λ x. (at < length t) × HoldsAt (λ y. now x ≡ y) t at)
-    → (s : B) → now s ≡ stop → option_eq (λ x y. eqb (now x) (now y)) r (Some s) ≡ ended_by t at stop
+-- what the code looks up, and compares where a byte stands there
+pub ended_beyond : (t : List ℕ) (at stop : ℕ) → length t ≤ at → false ≡ ended_by t at stop
 unfolding ended_by
-ended_at now t at stop (Some x) there s e = rw (lt-ltb at (length t) there.0) (ap₂ eqb (there.1 0) e)
-ended_at now t at stop None beyond s e = rw (le-ltb at (length t) beyond) refl
+ended_beyond t at stop beyond = rw (le-ltb at (length t) beyond) refl
+
+pub ended_there : (t : List ℕ) (at stop b : ℕ) → at < length t → b ≡ get_or t at 0 → eqb b stop ≡ ended_by t at stop
+unfolding ended_by
+ended_there t at stop b there e = rw (lt-ltb at (length t) there) (ap (λ (k : ℕ). eqb k stop) e)
 
 module _ (t : List ℕ) (at stop : ℕ) (no_digit : stop < 48) where
   -- where a number and stop stand at the place, these are its digits

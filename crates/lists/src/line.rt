@@ -21,7 +21,10 @@ pub struct Line {
 fn ended_by(text: &[u8], at: usize, stop: u8) -> bool
     ensures { result ≡ ended_by text.now at stop }
 {
-    text.get(at) == Some(&stop)
+    match text.get(at) {
+        Some(byte) => *byte == stop,
+        None => false,
+    }
 }
 
 // The number at a place, where the byte stop ends it, and the place behind that byte.
