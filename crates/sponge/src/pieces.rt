@@ -183,11 +183,15 @@ fn open_aligned<W: Word>(s: State<W>, rounds: u32, c: &[u8]) -> State<W>
     open_left(t, rounds, &c[at..])
 }
 
-// A piece of a body's ciphertext: its message is taken in, and nothing is written.
+// A piece of a body's ciphertext: its message is taken in, and nothing is written; an empty one is nothing.
 pub fn open<W: Word>(s: State<W>, rounds: u32, n: usize, c: &[u8]) -> State<W>
     ensures { result ≡ fed W.width (rounds_of W.width rounds) body_mark s n (unfed W.width (rounds_of W.width rounds) s n c.now) }
 {
+    let len = c.len();
+    if len == 0 {
+        return s;
+    }
     let j = place::<W>(n);
-    let k = filling::<W>(j, c.len());
+    let k = filling::<W>(j, len);
     open_aligned(open_filling(s, rounds, j, &c[..k]), rounds, &c[k..])
 }

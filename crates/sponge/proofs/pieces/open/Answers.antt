@@ -1,9 +1,15 @@
--- `sponge::pieces::open`: the bytes that go on in a block, and the rest.
+-- `sponge::pieces::open`: nothing of an empty piece; else the bytes that go on in a block, and the rest.
 use Rattle.std.proofs.Common.{refl}
 use Rattle.norx.proofs.Slices.{tail}
-use Rattle.norx.proofs.Unfed.{unfed_piece}
+use Rattle.norx.proofs.Unfed.{unfed_none, unfed_piece}
 use Rattle.rules.specs.Rules.{rounds_of}
 use Rattle.sponge.proofs.pieces.open.Goals as goal
+
+pub returns-then-len-eq0 : goal.returns-then-len-eq0
+returns-then-len-eq0 g c =
+    let w = g.W.Word.width in
+    let x = c.args in
+    unfed_none w (rounds_of w x.rounds) x.s x.n x.c.now c.if-len-eq0.true
 
 pub returns : goal.returns
 returns g c =
