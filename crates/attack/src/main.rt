@@ -52,7 +52,7 @@ fn pieces_at(rt: &impl Print, width: u32, editions: Editions) -> io::Result<Tall
     Ok(apart + shared)
 }
 
-fn in_segments(rt: &(impl Print + AllocGlobal)) -> io::Result<()> {
+fn in_segments(rt: &impl Print) -> io::Result<()> {
     rt.print(
         "\nTwo texts of 65636 bytes of the same editions, each sealed in two segments with 4 and\n\
          with 6 rounds, are mixed and offered to receivers: every two segments, first or last,\n\

@@ -3,13 +3,11 @@ use crate::job::{KEY, NOTE, TRAILER, fill, part};
 use held::Held;
 use places::terms::{Edition, Terms};
 use places::{Label, Part};
+use rules::w64::ROW;
 
 pub(crate) const BODY: usize = 300;
 
 const ROUNDS: u32 = 4;
-
-// The bytes of a key at 64-bit words, which a nonce and a tag have too.
-const ROW: usize = 32;
 
 // The ciphertext of the body, the nonce, and the tag in as many bytes as the nonce has.
 #[derive(Drop)]

@@ -1,9 +1,13 @@
 // What is sealed and checked.
 use places::terms::{Edition, Terms};
 use places::{Label, Part};
+use rules::w64;
 use std::fmt;
 
 pub(crate) const BODY: usize = 1024 * 1024;
+
+// The bytes of a body and the longer tag.
+pub(crate) const SEALED: usize = BODY + w64::TAG;
 
 pub(crate) const PIECE: usize = 64 * 1024;
 

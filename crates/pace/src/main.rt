@@ -10,17 +10,21 @@ mod pieces;
 
 use buffers::Buffers;
 use compare::compare;
-use job::{Line, Work};
+use job::{BODY, Line, SEALED, Work};
 use measure::measure;
-use std::alloc::Global;
 use std::env::Env;
 use std::io;
 
 fn main(rt: HostRuntime) -> io::Result<()> {
+    let mut buffers = Buffers {
+        body: [0x5a; BODY],
+        sealed: [0; SEALED],
+        out: [0; SEALED],
+    };
     if asked(&rt) {
-        each_line(rt.alloc(), |line, buffers| measure(&rt, line, buffers))
+        each_line(&mut buffers, |line, buffers| measure(&rt, line, buffers))
     } else {
-        each_line(rt.alloc(), |line, buffers| compare(&rt, line, buffers))
+        each_line(&mut buffers, |line, buffers| compare(&rt, line, buffers))
     }
 }
 
@@ -34,13 +38,15 @@ fn asked(rt: &impl Env) -> bool {
 }
 
 // Prints every line: both widths, each with both rounds.
-fn each_line<F: Fn(Line, &mut Buffers) -> io::Result<()>>(alloc: Global, print: F) -> io::Result<()>
+fn each_line<F: Fn(Line, &mut Buffers) -> io::Result<()>>(
+    buffers: &mut Buffers,
+    print: F,
+) -> io::Result<()>
     requires { F.IsAlwaysCallable print }
 {
     for width in [32, 64] {
-        let mut buffers = Buffers::new(alloc, width)?;
-        both_works(width, 4, &mut buffers, &print)?;
-        both_works(width, 6, &mut buffers, &print)?;
+        both_works(width, 4, &mut *buffers, &print)?;
+        both_works(width, 6, &mut *buffers, &print)?;
     }
     Ok(())
 }

@@ -1,12 +1,12 @@
 // A third day: a long job is served segment by segment, and the retry brings the end of another revision.
-use crate::job::{KEY, NEW, NOTE, OLD, second_half, terms};
+use crate::job::{HALF, KEY, NEW, NOTE, OLD, second_half, terms};
 use crate::told::{Answered, OnOneLine};
 use crate::tool::Tool;
 use places::terms::Edition;
 use rules::SEGMENT;
+use rules::w64::TAG;
 use segments::at;
 use std::io;
-use words::word::row_bytes;
 
 // The line of which the first segment is made.
 const LINE: [u8; 15] = *b"G1 X80.0 Z-4.0\n";
@@ -16,14 +16,19 @@ const OLD_NONCE: [u8; 24] = *b"job nonce of revision 11";
 
 const NONCE: [u8; 24] = *b"job nonce of revision 12";
 
+// Bytes of a first segment as it is sealed, and of a last one.
+pub(crate) const SEALED: usize = SEGMENT + TAG;
+
+const SEALED_HALF: usize = HALF + TAG;
+
 // What is in the first segment; the segments of 7/12, and the last of 7/11 under its own nonce and under that of 7/12.
 #[derive(Drop)]
-pub(crate) struct Segments {
-    body: Vec<u8>,
-    first: Vec<u8>,
-    last: Vec<u8>,
-    old: Vec<u8>,
-    old_again: Vec<u8>,
+pub(crate) struct Segments<'a> {
+    body: &'a [u8],
+    first: &'a [u8],
+    last: [u8; SEALED_HALF],
+    old: [u8; SEALED_HALF],
+    old_again: [u8; SEALED_HALF],
 }
 
 pub(crate) fn show_job(rt: &impl Print) -> io::Result<()> {
@@ -40,45 +45,66 @@ pub(crate) fn show_job(rt: &impl Print) -> io::Result<()> {
     )
 }
 
-pub(crate) fn seal_all(rt: &(impl Print + AllocGlobal)) -> io::Result<Segments> {
-    let mut body = vec![in rt.alloc(); 0; SEGMENT]?;
+// Body and first are rooms that are lent.
+pub(crate) fn seal_all<'a>(
+    rt: &impl Print,
+    body: &'a mut [u8; SEGMENT],
+    first: &'a mut [u8; SEALED],
+) -> io::Result<Segments<'a>> {
+    let mut last = [0; SEALED_HALF];
+    let mut old = [0; SEALED_HALF];
+    let mut old_again = [0; SEALED_HALF];
     for (i, b) in body.iter_mut().enumerate() {
         *b = LINE[i % 15];
     }
-    let (new, old) = (second_half(&NEW.body), second_half(&OLD.body));
+    let (new_half, old_half) = (second_half(&NEW.body), second_half(&OLD.body));
+    seal(rt, NEW.edition, &NONCE, 0, body, first, "7/12, segment 0")?;
+    seal(
+        rt,
+        NEW.edition,
+        &NONCE,
+        1,
+        new_half,
+        &mut last,
+        "7/12, segment 1, the last",
+    )?;
+    seal(
+        rt,
+        OLD.edition,
+        &OLD_NONCE,
+        1,
+        old_half,
+        &mut old,
+        "7/11, segment 1, the last, under its own nonce",
+    )?;
+    seal(
+        rt,
+        OLD.edition,
+        &NONCE,
+        1,
+        old_half,
+        &mut old_again,
+        "7/11, segment 1, the last, under that of 7/12",
+    )?;
     Ok(Segments {
-        first: seal(rt, NEW.edition, &NONCE, 0, &body, "7/12, segment 0")?,
-        last: seal(rt, NEW.edition, &NONCE, 1, new, "7/12, segment 1, the last")?,
-        old: seal(
-            rt,
-            OLD.edition,
-            &OLD_NONCE,
-            1,
-            old,
-            "7/11, segment 1, the last, under its own nonce",
-        )?,
-        old_again: seal(
-            rt,
-            OLD.edition,
-            &NONCE,
-            1,
-            old,
-            "7/11, segment 1, the last, under that of 7/12",
-        )?,
         body,
+        first,
+        last,
+        old,
+        old_again,
     })
 }
 
 // Seals a segment, of which the second is the last.
 fn seal(
-    rt: &(impl Print + AllocGlobal),
+    rt: &impl Print,
     edition: Edition,
     nonce: &[u8],
     index: u64,
     body: &[u8],
+    out: &mut [u8],
     name: &str,
-) -> io::Result<Vec<u8>> {
-    let mut out = vec![in rt.alloc(); 0; body.len().saturating_add(row_bytes::<u64>())]?;
+) -> io::Result<()> {
     let sealed = at::seal::<u64>(
         &KEY,
         nonce,
@@ -87,33 +113,32 @@ fn seal(
         index,
         index == 1,
         body,
-        &mut out,
+        out,
     );
-    println!(rt; "  {name} -> {}", Answered(sealed.answer))?;
-    Ok(out)
+    println!(rt; "  {name} -> {}", Answered(sealed.answer))
 }
 
-pub(crate) fn serve(rt: &(impl Print + AllocGlobal), s: &Segments) -> io::Result<()> {
+pub(crate) fn serve(rt: &impl Print, s: &Segments) -> io::Result<()> {
     rt.println("The tool begins while the rest is being fetched:")?;
     let mut tool = Tool::start(rt, &NONCE, NEW.edition)?;
-    tool.take(rt, false, &s.first, Some(&s.body), "first of 12")?;
+    tool.take(rt, false, s.first, Some(s.body), "first of 12")?;
     old_segments(rt, &mut tool, s)?;
     own_segments(rt, &mut tool, s)?;
     conclude(rt, &tool)
 }
 
 // The end of the other revision is refused, and nothing of it is served.
-fn old_segments(rt: &(impl Print + AllocGlobal), tool: &mut Tool, s: &Segments) -> io::Result<()> {
+fn old_segments(rt: &impl Print, tool: &mut Tool, s: &Segments) -> io::Result<()> {
     rt.println("The fetch times out, and the retry brings the old revision, under either nonce:")?;
     tool.take(rt, true, &s.old, None, "second of 11")?;
     tool.take(rt, true, &s.old_again, None, "second of 11")
 }
 
 // So is all that is of the job itself and not the segment that it waits for.
-fn own_segments(rt: &(impl Print + AllocGlobal), tool: &mut Tool, s: &Segments) -> io::Result<()> {
+fn own_segments(rt: &impl Print, tool: &mut Tool, s: &Segments) -> io::Result<()> {
     let due = second_half(&NEW.body);
     rt.println("Then the segment that the tool has already, and the second not called the last:")?;
-    tool.take(rt, false, &s.first, None, "first of 12")?;
+    tool.take(rt, false, s.first, None, "first of 12")?;
     tool.take(rt, false, &s.last, None, "second of 12")?;
     tool.say_waiting(rt)?;
     tool.take(rt, true, &s.last, Some(due), "second of 12")?;

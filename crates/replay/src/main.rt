@@ -11,6 +11,7 @@ mod story;
 mod told;
 mod tool;
 
+use rules::SEGMENT;
 use std::io;
 
 fn main(rt: HostRuntime) -> io::Result<()> {
@@ -41,7 +42,9 @@ fn two_customers(rt: &impl Print) -> io::Result<()> {
     customers::conclude(rt, then, truly || falsely, honest)
 }
 
-fn served_early(rt: &(impl Print + AllocGlobal)) -> io::Result<()> {
+fn served_early(rt: &impl Print) -> io::Result<()> {
+    let mut body = [0; SEGMENT];
+    let mut first = [0; early::SEALED];
     early::show_job(rt)?;
-    early::serve(rt, &early::seal_all(rt)?)
+    early::serve(rt, &early::seal_all(rt, &mut body, &mut first)?)
 }

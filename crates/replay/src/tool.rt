@@ -2,6 +2,7 @@
 use crate::job::{KEY, NOTE, terms};
 use crate::told::{Answered, Named};
 use places::terms::Edition;
+use rules::SEGMENT;
 use segments::receiver::Receiver;
 use std::io;
 use words::word::row_bytes;
@@ -33,24 +34,24 @@ impl Tool {
     // Offers a segment; due is what the tool must be served of it, and none where it must be refused.
     pub(crate) fn take(
         &mut self,
-        rt: &(impl Print + AllocGlobal),
+        rt: &impl Print,
         last: bool,
         sealed: &[u8],
         due: Option<&[u8]>,
         name: &str,
     ) -> io::Result<()> {
         let called = if last { "last segment" } else { "segment" };
-        let mut out = vec![in rt.alloc(); UNTOUCHED; sealed
-            .len()
-            .saturating_sub(row_bytes::<u64>())]?;
-        let step = self.receiver.take(&NOTE, last, sealed, &mut out);
+        let mut room = [UNTOUCHED; SEGMENT];
+        let n = sealed.len().saturating_sub(row_bytes::<u64>());
+        let out = &mut room[..n.min(SEGMENT)];
+        let step = self.receiver.take(&NOTE, last, sealed, out);
         self.receiver = step.receiver;
         print!(rt; "  {called}, {name} -> {}; ", Answered(step.answer))?;
         self.right &= if step.answer.is_ok() {
             println!(rt; "served {} bytes", out.len())?;
-            due == Some(out.as_slice())
+            due == Some(&*out)
         } else {
-            say_refused(rt, &out)? && due.is_none()
+            say_refused(rt, out)? && due.is_none()
         };
         Ok(())
     }

@@ -1,5 +1,5 @@
 // A line answered: a call, a comment, or neither.
-use crate::asked::{Asked, read};
+use crate::asked::read;
 use crate::fault::Fault;
 use crate::names::Call;
 use crate::{made, reading, show};
@@ -8,40 +8,52 @@ use dispatch::kept::Kept;
 // The most bytes of a line.
 pub(crate) const LINE_MOST: usize = 400000;
 
-// Answers a line; one that is no call changes nothing.
+// Answers a line; one that is no call changes nothing. There is room for the bytes of all its words, and for an output.
 pub(crate) fn answer(
-    rt: &(impl Print + AllocGlobal),
+    rt: &impl Print,
     line: &[u8],
     kept: &mut Kept,
+    texts: &mut [u8],
+    out: &mut [u8],
 ) -> Result<(), Fault> {
-    match called(rt, line, kept) {
+    match called(rt, line, kept, texts, out) {
         Err(Fault::NoCall) => Ok(rt.print("?\n")?),
         answered => answered,
     }
 }
 
 // An empty line and a comment are written as they are, and behind `quiet ` a call is a quiet one.
-fn called(rt: &(impl Print + AllocGlobal), line: &[u8], kept: &mut Kept) -> Result<(), Fault> {
+fn called(
+    rt: &impl Print,
+    line: &[u8],
+    kept: &mut Kept,
+    texts: &mut [u8],
+    out: &mut [u8],
+) -> Result<(), Fault> {
     if LINE_MOST < line.len() {
         return Err(Fault::NoCall);
     }
     if line.is_empty() || line.starts_with(b"#") {
         rt.write_all(line)?;
     } else if let Some(call) = line.strip_prefix(b"quiet ") {
-        made(rt, &read(rt.alloc(), call)?, false, kept)?;
+        made(rt, call, false, kept, texts, out)?;
     } else {
-        made(rt, &read(rt.alloc(), line)?, true, kept)?;
+        made(rt, line, true, kept, texts, out)?;
     }
     Ok(rt.print("\n")?)
 }
 
-// Makes a call and writes its line: the first word alone where it is quiet, and else all of them.
+// Makes the call that a line is and writes its line: the first word alone where it is quiet, and else all of them.
 fn made(
-    rt: &(impl Print + AllocGlobal),
-    asked: &Asked,
+    rt: &impl Print,
+    line: &[u8],
     loud: bool,
     kept: &mut Kept,
+    texts: &mut [u8],
+    out: &mut [u8],
 ) -> Result<(), Fault> {
+    let asked = read(line, &mut *texts)?;
+    let bytes = texts.get(..asked.used).unwrap_or(&[]);
     match asked.call {
         Call::Constants => show::constants(rt, asked.words.first, loud)?,
         Call::Show => show::session(rt, kept.session, loud)?,
@@ -53,9 +65,9 @@ fn made(
             kept.receiver = dispatch::jobs::put(asked.words, kept.receiver);
             rt.print(0)?;
         }
-        Call::Read => reading::list(rt, asked, loud)?,
-        Call::Fields => reading::fields(rt, asked, loud)?,
-        _ => made::answer(rt, asked, loud, kept)?,
+        Call::Read => reading::list(rt, bytes, loud)?,
+        Call::Fields => reading::fields(rt, bytes, asked.words.second, loud)?,
+        _ => made::answer(rt, asked, bytes, loud, kept, out)?,
     }
     Ok(())
 }

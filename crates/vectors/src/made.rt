@@ -10,29 +10,33 @@ use std::io;
 // Every byte of an output before a call.
 const UNTOUCHED: u8 = 0xa5;
 
-// Makes a call where what is kept allows it.
+// Makes a call where what is kept allows it, on an output that is cut from a room.
 pub(crate) fn answer(
-    rt: &(impl Print + AllocGlobal),
-    asked: &Asked,
+    rt: &impl Print,
+    asked: Asked,
+    texts: &[u8],
     loud: bool,
     kept: &mut Kept,
+    room: &mut [u8],
 ) -> Result<(), Fault> {
     let k = asked.call as usize;
     if !dispatch::is_call(k, asked.words, kept.session) {
         return Err(Fault::NoCall);
     }
-    let mut out = vec![in rt.alloc(); UNTOUCHED; asked.lent.unwrap_or(0)]?;
-    let step = dispatch::kept::call(k, asked.words, &asked.memory, *kept, &mut out);
+    let n = asked.lent.unwrap_or(0).min(room.len());
+    let out = &mut room[..n];
+    out.fill(UNTOUCHED);
+    let step = dispatch::kept::call(k, asked.words, texts, *kept, &mut *out);
     *kept = step.kept;
     rt.print(number(step.answer))?;
     if loud {
-        tell_rest(rt, asked, step, &out)?;
+        tell_rest(rt, asked, step, out)?;
     }
     Ok(())
 }
 
 // Behind the answer the runs of P where the call reports them, the output where one is lent, and where a segment is taken, what the receiver waits for.
-fn tell_rest(rt: &impl Print, asked: &Asked, step: KeptStep, out: &[u8]) -> io::Result<()> {
+fn tell_rest(rt: &impl Print, asked: Asked, step: KeptStep, out: &[u8]) -> io::Result<()> {
     if asked.call.reports_runs() {
         print!(rt; " {}", step.runs)?;
     }

@@ -1,13 +1,12 @@
 // The calls that read a text, as a list and field by field.
-use crate::asked::Asked;
 use crate::tell;
 use fields::field_from;
 use lists::read_list;
 use std::io;
 
 // TEXT: what it says as a list, or its first bad line.
-pub(crate) fn list(rt: &impl Print, asked: &Asked, loud: bool) -> io::Result<()> {
-    match read_list(&asked.memory) {
+pub(crate) fn list(rt: &impl Print, text: &[u8], loud: bool) -> io::Result<()> {
+    match read_list(text) {
         Ok(_) if !loud => rt.print(0),
         Err(_) if !loud => rt.print("bad"),
         Ok(says) => print!(rt;
@@ -18,14 +17,14 @@ pub(crate) fn list(rt: &impl Print, asked: &Asked, loud: bool) -> io::Result<()>
     }
 }
 
-// TEXT K: the first K fields of the text.
-pub(crate) fn fields(rt: &impl Print, asked: &Asked, loud: bool) -> io::Result<()> {
+// TEXT K: the first k fields of the text.
+pub(crate) fn fields(rt: &impl Print, text: &[u8], k: usize, loud: bool) -> io::Result<()> {
     rt.print(0)?;
     if loud {
         let mut at = 0;
-        for _ in 0..asked.words.second {
-            let field = field_from(&asked.memory, at);
-            let bytes = asked.memory.get(field.from..field.to).unwrap_or(&[]);
+        for _ in 0..k {
+            let field = field_from(text, at);
+            let bytes = text.get(field.from..field.to).unwrap_or(&[]);
             tell::bytes(rt, bytes)?;
             at = field.next;
         }
