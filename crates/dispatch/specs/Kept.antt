@@ -3,14 +3,23 @@
 use Rattle.answers.specs.Answers.{Answer}
 use Rattle.std.specs.Prelude.{ℕ, cond, List, eqb}
 use Rattle.answers.specs.declared.Outcome.{Outcome}
-use Rattle.session.specs.declared.session.Close.{Close}
-use Rattle.held.specs.declared.Held.{Held}
-use Rattle.held.specs.declared.receiver.HeldReceiverStep.{HeldReceiverStep}
+use Rattle.session.specs.Seen.{Closing as Close}
+use Rattle.held.specs.declared.EitherWidth.{EitherWidth as Held}
+use Rattle.held.specs.declared.receiver.EitherWidth.{EitherWidth as HeldReceiver}
+use Rattle.held.specs.Receivers.{HeldReceiverStep}
 use Rattle.dispatch.specs.declared.Words.{Words}
-use Rattle.dispatch.specs.declared.kept.Kept.{Kept}
-use Rattle.dispatch.specs.declared.kept.KeptStep.{KeptStep}
 use Rattle.dispatch.specs.Calls.{made_call, made_out}
 use Rattle.dispatch.specs.Segments.{segment_call, segment_call_out, receiver_call, take_call, take_call_out, list_call, list_call_out}
+
+-- what a contract sees of all that is kept, and of what a call gives
+pub record Kept : Type 0 where
+  pub session : Held
+  pub receiver : HeldReceiver
+
+pub record KeptStep : Type 0 where
+  pub answer : Answer
+  pub runs : ℕ
+  pub kept : Kept
 
 -- an outcome that leaves all as it was, and an answer with no runs; the step of a receiver, and that of a session
 abbrev pub kept_all : Kept → Outcome → KeptStep

@@ -8,11 +8,23 @@ use answers::{Outcome, Refusal};
 use held::Held;
 use held::receiver::{HeldReceiver, HeldReceiverStep};
 use session::session::Close;
+use std::marker::Model;
 
 #[derive(Clone, Copy)]
 pub struct Kept {
     pub session: Held,
     pub receiver: HeldReceiver,
+}
+
+// It has a model, of the same fields, so that it is copied where it is passed by value.
+impl Model for Kept {
+    ghost use Rattle.dispatch.specs.Kept.{Kept};
+
+    ghost Value = { Kept };
+
+    ghost view = { λ k. record { session = k.session; receiver = k.receiver } };
+
+    ghost inverse = { λ v. record { session = v.session; receiver = v.receiver } };
 }
 
 // What a call answers, the runs of P that it reports, which are 0 of a call that reports none, and what is kept then.
@@ -21,6 +33,17 @@ pub struct KeptStep {
     pub answer: Result<(), Refusal>,
     pub runs: u32,
     pub kept: Kept,
+}
+
+// It has a model, of the same fields, so that it is copied where it is passed by value.
+impl Model for KeptStep {
+    ghost use Rattle.dispatch.specs.Kept.{KeptStep};
+
+    ghost Value = { KeptStep };
+
+    ghost view = { λ s. record { answer = s.answer; runs = s.runs; kept = s.kept } };
+
+    ghost inverse = { λ v. record { answer = v.answer; runs = v.runs; kept = v.kept } };
 }
 
 // Makes the call of a number: 10 seals a segment, 11 starts a receiver, 12 takes a segment, 14 writes a list, and any other is one on the session.
@@ -56,7 +79,10 @@ fn with_receiver(kept: Kept, step: HeldReceiverStep) -> KeptStep
     KeptStep {
         answer,
         runs,
-        kept: Kept { receiver, ..kept },
+        kept: Kept {
+            session: kept.session,
+            receiver,
+        },
     }
 }
 
@@ -71,6 +97,9 @@ fn with_session(kept: Kept, step: Close<Held>) -> KeptStep
     KeptStep {
         answer,
         runs,
-        kept: Kept { session, ..kept },
+        kept: Kept {
+            session,
+            receiver: kept.receiver,
+        },
     }
 }

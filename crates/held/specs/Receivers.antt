@@ -2,12 +2,18 @@
 -- Assumes nothing.
 use Rattle.std.specs.Prelude.{ℕ, Bool, cond, List}
 use Rattle.norx.specs.Norx.{word32, word64}
+use Rattle.answers.specs.Answers.{Answer}
 use Rattle.places.specs.declared.terms.Terms.{Terms}
 use Rattle.cutting.specs.declared.Waiting.{Waiting}
 use Rattle.segments.specs.Receivers.{Receiving, no_receiving, starts_answer, starts_with, taking_answer, taking_runs, taking_out, after_taking}
-use Rattle.held.specs.declared.receiver.HeldReceiver.{HeldReceiver}
-use Rattle.held.specs.declared.receiver.HeldReceiver.TheVariants.{Narrow, Wide}
-use Rattle.held.specs.declared.receiver.HeldReceiverStep.{HeldReceiverStep}
+use Rattle.held.specs.declared.receiver.EitherWidth.{EitherWidth as HeldReceiver}
+use Rattle.held.specs.declared.receiver.EitherWidth.TheVariants.{Narrow, Wide}
+
+-- what a contract sees of what a call gives
+pub record HeldReceiverStep : Type 0 where
+  pub answer : Answer
+  pub runs : ℕ
+  pub receiver : HeldReceiver
 
 -- the receiver of a refused start at a width
 abbrev pub held_none : Bool → HeldReceiver

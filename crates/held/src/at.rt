@@ -7,12 +7,27 @@ use places::{Label, Place};
 use session::check::Checking;
 use session::seal::Sealing;
 use session::session::{Close, Session, Step};
+use std::marker::Model;
 use words::word::Word;
 
 #[derive(Clone, Copy)]
-pub enum HeldAt<W: Word> {
+pub struct HeldAt<W: Word>(pub EitherKind<W>);
+
+#[derive(Clone, Copy)]
+pub enum EitherKind<W: Word> {
     Seals(Sealing<W>),
     Checks(Checking<W>),
+}
+
+// A contract sees the session of its kind. It has a model so that it is copied where it is passed by value.
+impl<W: Word> Model for HeldAt<W> {
+    ghost use Rattle.held.specs.declared.at.EitherKind.{EitherKind};
+
+    ghost Value = { EitherKind W };
+
+    ghost view = { λ h. h.0 };
+
+    ghost inverse = { λ v. record { 0 = v } };
 }
 
 impl<W: Word> HeldAt<W> {
@@ -22,9 +37,9 @@ impl<W: Word> HeldAt<W> {
     {
         let session = Session::closed();
         if check {
-            HeldAt::Checks(Checking(session))
+            HeldAt(EitherKind::Checks(Checking(session)))
         } else {
-            HeldAt::Seals(Sealing(session))
+            HeldAt(EitherKind::Seals(Sealing(session)))
         }
     }
 
@@ -38,14 +53,14 @@ impl<W: Word> HeldAt<W> {
             Close {
                 answer,
                 runs: 0,
-                session: HeldAt::Checks(session),
+                session: HeldAt(EitherKind::Checks(session)),
             }
         } else {
             let Step { answer, session } = Sealing::start(key, nonce, terms);
             Close {
                 answer,
                 runs: 0,
-                session: HeldAt::Seals(session),
+                session: HeldAt(EitherKind::Seals(session)),
             }
         }
     }
@@ -56,21 +71,21 @@ impl<W: Word> HeldAt<W> {
         ensures step { result ≡ piece_at W.width self.now label bytes.now out.old }
         ensures output { out.new ≡ piece_out_at W.width self.now label bytes.now out.old }
     {
-        match self {
-            HeldAt::Seals(s) => {
+        match &self.0 {
+            EitherKind::Seals(s) => {
                 let Step { answer, session } = s.piece(label, bytes, out);
                 Close {
                     answer,
                     runs: 0,
-                    session: HeldAt::Seals(session),
+                    session: HeldAt(EitherKind::Seals(session)),
                 }
             }
-            HeldAt::Checks(s) => {
+            EitherKind::Checks(s) => {
                 let Step { answer, session } = s.piece(label, bytes);
                 Close {
                     answer,
                     runs: 0,
-                    session: HeldAt::Checks(session),
+                    session: HeldAt(EitherKind::Checks(session)),
                 }
             }
         }
@@ -82,8 +97,8 @@ impl<W: Word> HeldAt<W> {
         ensures step { result ≡ close_at W.width self.now edition given.now tag.old }
         ensures tag { tag.new ≡ close_tag_at W.width self.now edition tag.old }
     {
-        match self {
-            HeldAt::Seals(s) => {
+        match &self.0 {
+            EitherKind::Seals(s) => {
                 let Close {
                     answer,
                     runs,
@@ -92,10 +107,10 @@ impl<W: Word> HeldAt<W> {
                 Close {
                     answer,
                     runs,
-                    session: HeldAt::Seals(session),
+                    session: HeldAt(EitherKind::Seals(session)),
                 }
             }
-            HeldAt::Checks(s) => {
+            EitherKind::Checks(s) => {
                 let Close {
                     answer,
                     runs,
@@ -104,7 +119,7 @@ impl<W: Word> HeldAt<W> {
                 Close {
                     answer,
                     runs,
-                    session: HeldAt::Checks(session),
+                    session: HeldAt(EitherKind::Checks(session)),
                 }
             }
         }
@@ -114,9 +129,9 @@ impl<W: Word> HeldAt<W> {
     pub fn checks(&self) -> bool
         ensures { result ≡ checks_at self.now }
     {
-        match self {
-            HeldAt::Seals(_) => false,
-            HeldAt::Checks(_) => true,
+        match &self.0 {
+            EitherKind::Seals(_) => false,
+            EitherKind::Checks(_) => true,
         }
     }
 
@@ -124,9 +139,9 @@ impl<W: Word> HeldAt<W> {
     pub fn session(&self) -> Session<W>
         ensures { result ≡ session_at self.now }
     {
-        match self {
-            HeldAt::Seals(s) => s.0,
-            HeldAt::Checks(s) => s.0,
+        match &self.0 {
+            EitherKind::Seals(s) => s.0,
+            EitherKind::Checks(s) => s.0,
         }
     }
 
@@ -136,9 +151,9 @@ impl<W: Word> HeldAt<W> {
     {
         let Session { state, key, .. } = self.session();
         let session = Session { state, key, place };
-        match self {
-            HeldAt::Seals(_) => HeldAt::Seals(Sealing(session)),
-            HeldAt::Checks(_) => HeldAt::Checks(Checking(session)),
+        match &self.0 {
+            EitherKind::Seals(_) => HeldAt(EitherKind::Seals(Sealing(session))),
+            EitherKind::Checks(_) => HeldAt(EitherKind::Checks(Checking(session))),
         }
     }
 

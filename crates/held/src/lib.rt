@@ -3,21 +3,36 @@
 
 ghost use Rattle.std.specs.Prelude.{◌≡◌};
 ghost use Rattle.held.specs.At.{held_close_of};
-ghost use Rattle.held.specs.declared.Held.TheVariants.{Narrow, Wide};
+ghost use Rattle.held.specs.declared.EitherWidth.TheVariants.{Narrow, Wide};
 ghost use Rattle.held.specs.Held.{closed_held, held_start, held_piece, held_piece_out, held_close, held_tag, held_wide, held_place, held_checks, held_put, held_word};
 
 use at::HeldAt;
 use places::terms::{Edition, Terms};
 use places::{Label, Place};
 use session::session::Close;
+use std::marker::Model;
 
 pub mod at;
 pub mod receiver;
 
 #[derive(Clone, Copy)]
-pub enum Held {
+pub struct Held(pub EitherWidth);
+
+#[derive(Clone, Copy)]
+pub enum EitherWidth {
     Narrow(HeldAt<u32>),
     Wide(HeldAt<u64>),
+}
+
+// A contract sees the session at its width. It has a model so that it is copied where it is passed by value.
+impl Model for Held {
+    ghost use Rattle.held.specs.declared.EitherWidth.{EitherWidth};
+
+    ghost Value = { EitherWidth };
+
+    ghost view = { λ h. h.0 };
+
+    ghost inverse = { λ v. record { 0 = v } };
 }
 
 impl Held {
@@ -26,9 +41,9 @@ impl Held {
         ensures { result ≡ closed_held check wide }
     {
         if wide {
-            Held::Wide(HeldAt::closed(check))
+            Held(EitherWidth::Wide(HeldAt::closed(check)))
         } else {
-            Held::Narrow(HeldAt::closed(check))
+            Held(EitherWidth::Narrow(HeldAt::closed(check)))
         }
     }
 
@@ -50,9 +65,9 @@ impl Held {
         ensures step { result ≡ held_piece self.now label bytes.now out.old }
         ensures output { out.new ≡ held_piece_out self.now label bytes.now out.old }
     {
-        match self {
-            Held::Narrow(h) => with_narrow(h.piece(label, bytes, out)),
-            Held::Wide(h) => with_wide(h.piece(label, bytes, out)),
+        match &self.0 {
+            EitherWidth::Narrow(h) => with_narrow(h.piece(label, bytes, out)),
+            EitherWidth::Wide(h) => with_wide(h.piece(label, bytes, out)),
         }
     }
 
@@ -62,9 +77,9 @@ impl Held {
         ensures step { result ≡ held_close self.now edition given.now tag.old }
         ensures tag { tag.new ≡ held_tag self.now edition tag.old }
     {
-        match self {
-            Held::Narrow(h) => with_narrow(h.close(edition, given, tag)),
-            Held::Wide(h) => with_wide(h.close(edition, given, tag)),
+        match &self.0 {
+            EitherWidth::Narrow(h) => with_narrow(h.close(edition, given, tag)),
+            EitherWidth::Wide(h) => with_wide(h.close(edition, given, tag)),
         }
     }
 
@@ -72,9 +87,9 @@ impl Held {
     pub fn is_wide(&self) -> bool
         ensures { result ≡ held_wide self.now }
     {
-        match self {
-            Held::Narrow(_) => false,
-            Held::Wide(_) => true,
+        match &self.0 {
+            EitherWidth::Narrow(_) => false,
+            EitherWidth::Wide(_) => true,
         }
     }
 
@@ -82,9 +97,9 @@ impl Held {
     pub fn place(&self) -> Place
         ensures { result ≡ held_place self.now }
     {
-        match self {
-            Held::Narrow(h) => h.session().place,
-            Held::Wide(h) => h.session().place,
+        match &self.0 {
+            EitherWidth::Narrow(h) => h.session().place,
+            EitherWidth::Wide(h) => h.session().place,
         }
     }
 
@@ -92,9 +107,9 @@ impl Held {
     pub fn checks(&self) -> bool
         ensures { result ≡ held_checks self.now }
     {
-        match self {
-            Held::Narrow(h) => h.checks(),
-            Held::Wide(h) => h.checks(),
+        match &self.0 {
+            EitherWidth::Narrow(h) => h.checks(),
+            EitherWidth::Wide(h) => h.checks(),
         }
     }
 
@@ -102,9 +117,9 @@ impl Held {
     pub fn put(&self, place: Place) -> Held
         ensures { result ≡ held_put self.now place }
     {
-        match self {
-            Held::Narrow(h) => Held::Narrow(h.put(place)),
-            Held::Wide(h) => Held::Wide(h.put(place)),
+        match &self.0 {
+            EitherWidth::Narrow(h) => Held(EitherWidth::Narrow(h.put(place))),
+            EitherWidth::Wide(h) => Held(EitherWidth::Wide(h.put(place))),
         }
     }
 
@@ -113,9 +128,9 @@ impl Held {
     pub fn word(&self, i: usize) -> u64
         ensures { result ≡ held_word self.now i }
     {
-        match self {
-            Held::Narrow(h) => h.word(i),
-            Held::Wide(h) => h.word(i),
+        match &self.0 {
+            EitherWidth::Narrow(h) => h.word(i),
+            EitherWidth::Wide(h) => h.word(i),
         }
     }
 }
@@ -126,7 +141,7 @@ fn with_narrow(close: Close<HeldAt<u32>>) -> Close<Held>
     Close {
         answer: close.answer,
         runs: close.runs,
-        session: Held::Narrow(close.session),
+        session: Held(EitherWidth::Narrow(close.session)),
     }
 }
 
@@ -136,6 +151,6 @@ fn with_wide(close: Close<HeldAt<u64>>) -> Close<Held>
     Close {
         answer: close.answer,
         runs: close.runs,
-        session: Held::Wide(close.session),
+        session: Held(EitherWidth::Wide(close.session)),
     }
 }

@@ -1,17 +1,32 @@
 // A receiver of either width: for programs that are told by data which it is.
 ghost use Rattle.std.specs.Prelude.{◌≡◌};
 ghost use Rattle.held.specs.Receivers.{held_none, held_started, held_taken, held_taken_out, held_waiting, held_put};
-ghost use Rattle.held.specs.declared.receiver.HeldReceiver.TheVariants.{Narrow, Wide};
+ghost use Rattle.held.specs.declared.receiver.EitherWidth.TheVariants.{Narrow, Wide};
 
 use answers::Refusal;
 use cutting::Waiting;
 use places::terms::Terms;
 use segments::receiver::{Receiver, ReceiverStep, ReceiverTake};
+use std::marker::Model;
 
 #[derive(Clone, Copy)]
-pub enum HeldReceiver {
+pub struct HeldReceiver(pub EitherWidth);
+
+#[derive(Clone, Copy)]
+pub enum EitherWidth {
     Narrow(Receiver<u32>),
     Wide(Receiver<u64>),
+}
+
+// A contract sees the receiver at its width. It has a model so that it is copied where it is passed by value.
+impl Model for HeldReceiver {
+    ghost use Rattle.held.specs.declared.receiver.EitherWidth.{EitherWidth};
+
+    ghost Value = { EitherWidth };
+
+    ghost view = { λ h. h.0 };
+
+    ghost inverse = { λ v. record { 0 = v } };
 }
 
 // What a call answers, the runs of P that taking a segment reports, which are 0 of a start, and the receiver to go on with.
@@ -22,15 +37,26 @@ pub struct HeldReceiverStep {
     pub receiver: HeldReceiver,
 }
 
+// It has a model, of the same fields, so that it is copied where it is passed by value.
+impl Model for HeldReceiverStep {
+    ghost use Rattle.held.specs.Receivers.{HeldReceiverStep};
+
+    ghost Value = { HeldReceiverStep };
+
+    ghost view = { λ s. record { answer = s.answer; runs = s.runs; receiver = s.receiver } };
+
+    ghost inverse = { λ v. record { answer = v.answer; runs = v.runs; receiver = v.receiver } };
+}
+
 impl HeldReceiver {
     // The receiver of a refused start at a width.
     pub fn none(wide: bool) -> HeldReceiver
         ensures { result ≡ held_none wide }
     {
         if wide {
-            HeldReceiver::Wide(Receiver::none())
+            HeldReceiver(EitherWidth::Wide(Receiver::none()))
         } else {
-            HeldReceiver::Narrow(Receiver::none())
+            HeldReceiver(EitherWidth::Narrow(Receiver::none()))
         }
     }
 
@@ -52,8 +78,8 @@ impl HeldReceiver {
         ensures step { result ≡ held_taken self.now note.now last sealed.now out.old }
         ensures output { out.new ≡ held_taken_out self.now note.now last sealed.now out.old }
     {
-        match self {
-            HeldReceiver::Narrow(r) => {
+        match &self.0 {
+            EitherWidth::Narrow(r) => {
                 let ReceiverTake {
                     answer,
                     runs,
@@ -62,10 +88,10 @@ impl HeldReceiver {
                 HeldReceiverStep {
                     answer,
                     runs,
-                    receiver: HeldReceiver::Narrow(receiver),
+                    receiver: HeldReceiver(EitherWidth::Narrow(receiver)),
                 }
             }
-            HeldReceiver::Wide(r) => {
+            EitherWidth::Wide(r) => {
                 let ReceiverTake {
                     answer,
                     runs,
@@ -74,7 +100,7 @@ impl HeldReceiver {
                 HeldReceiverStep {
                     answer,
                     runs,
-                    receiver: HeldReceiver::Wide(receiver),
+                    receiver: HeldReceiver(EitherWidth::Wide(receiver)),
                 }
             }
         }
@@ -84,9 +110,9 @@ impl HeldReceiver {
     pub fn waiting(&self) -> Waiting
         ensures { result ≡ held_waiting self.now }
     {
-        match self {
-            HeldReceiver::Narrow(r) => r.waiting,
-            HeldReceiver::Wide(r) => r.waiting,
+        match &self.0 {
+            EitherWidth::Narrow(r) => r.waiting,
+            EitherWidth::Wide(r) => r.waiting,
         }
     }
 
@@ -94,16 +120,16 @@ impl HeldReceiver {
     pub fn put(&self, waiting: Waiting, rounds: u32) -> HeldReceiver
         ensures { result ≡ held_put self.now waiting rounds }
     {
-        match *self {
-            HeldReceiver::Narrow(mut r) => {
+        match self.0 {
+            EitherWidth::Narrow(mut r) => {
                 r.waiting = waiting;
                 r.terms.rounds = rounds;
-                HeldReceiver::Narrow(r)
+                HeldReceiver(EitherWidth::Narrow(r))
             }
-            HeldReceiver::Wide(mut r) => {
+            EitherWidth::Wide(mut r) => {
                 r.waiting = waiting;
                 r.terms.rounds = rounds;
-                HeldReceiver::Wide(r)
+                HeldReceiver(EitherWidth::Wide(r))
             }
         }
     }
@@ -115,7 +141,7 @@ fn started_narrow(step: ReceiverStep<u32>) -> HeldReceiverStep
     HeldReceiverStep {
         answer: step.answer,
         runs: 0,
-        receiver: HeldReceiver::Narrow(step.receiver),
+        receiver: HeldReceiver(EitherWidth::Narrow(step.receiver)),
     }
 }
 
@@ -125,6 +151,6 @@ fn started_wide(step: ReceiverStep<u64>) -> HeldReceiverStep
     HeldReceiverStep {
         answer: step.answer,
         runs: 0,
-        receiver: HeldReceiver::Wide(step.receiver),
+        receiver: HeldReceiver(EitherWidth::Wide(step.receiver)),
     }
 }

@@ -16,6 +16,16 @@ pub record Receiving : Type 0 where
   pub terms : Terms
   pub waiting : Waiting
 
+-- what a contract sees of what a start gives, and of what taking a segment gives
+pub record ReceiverStep : Type 0 where
+  pub answer : Answer
+  pub receiver : Receiving
+
+pub record ReceiverTake : Type 0 where
+  pub answer : Answer
+  pub runs : ℕ
+  pub receiver : Receiving
+
 -- a text in front of zeros, m bytes in all
 abbrev pub filled : ℕ → List ℕ → List ℕ
 filled m t = t ++ replicate (m - length t) 0

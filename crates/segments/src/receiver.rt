@@ -61,12 +61,34 @@ pub struct ReceiverStep<W: Word> {
     pub receiver: Receiver<W>,
 }
 
+// It has a model, of the same fields, so that it is copied where it is passed by value.
+impl<W: Word> Model for ReceiverStep<W> {
+    ghost use Rattle.segments.specs.Receivers.{ReceiverStep};
+
+    ghost Value = { ReceiverStep };
+
+    ghost view = { λ s. record { answer = s.answer; receiver = s.receiver } };
+
+    ghost inverse = { λ v. record { answer = v.answer; receiver = v.receiver } };
+}
+
 // What taking a segment answers, how many times P ran, and the receiver to go on with.
 #[derive(Clone, Copy)]
 pub struct ReceiverTake<W: Word> {
     pub answer: Result<(), Refusal>,
     pub runs: u32,
     pub receiver: Receiver<W>,
+}
+
+// It has a model, of the same fields, so that it is copied where it is passed by value.
+impl<W: Word> Model for ReceiverTake<W> {
+    ghost use Rattle.segments.specs.Receivers.{ReceiverTake};
+
+    ghost Value = { ReceiverTake };
+
+    ghost view = { λ s. record { answer = s.answer; runs = s.runs; receiver = s.receiver } };
+
+    ghost inverse = { λ v. record { answer = v.answer; runs = v.runs; receiver = v.receiver } };
 }
 
 impl<W: Word> Receiver<W> {

@@ -7,10 +7,7 @@ use Rattle.answers.specs.Answers.{done_of}
 use Rattle.places.specs.declared.terms.Terms.{Terms}
 use Rattle.places.specs.Places.{start_answer}
 use Rattle.session.specs.Sessions.{closed_of, fresh_of, start_of}
-use Rattle.session.specs.declared.session.Session.{Session}
-use Rattle.session.specs.declared.session.Step.{Step}
-use Rattle.session.specs.declared.seal.Sealing.{Sealing}
-use Rattle.session.specs.declared.check.Checking.{Checking}
+use Rattle.session.specs.Seen.{Session, Sealing, Checking, Step}
 use Rattle.session.specs.Kinds.{plain_of, sealing_of, checking_of}
 
 through : {A B : Type 0} (f : A → B) (b : Bool) (x y : A) → f (cond b x y) ≡ cond b (f x) (f y)

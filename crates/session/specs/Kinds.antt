@@ -1,13 +1,9 @@
 -- The two kinds of session, at a width whose words are of the type X.
 -- Assumes nothing.
-use Rattle.std.specs.Prelude.{List, ℕ}
+use Rattle.std.specs.Prelude.{ℕ}
 use Rattle.norx.specs.Norx.{Width, tag_bits}
-use Rattle.session.specs.Sessions.{Way, sealing, checking, Kind}
-use Rattle.session.specs.declared.session.Session.{Session}
-use Rattle.session.specs.declared.session.Step.{Step}
-use Rattle.session.specs.declared.session.Close.{Close}
-use Rattle.session.specs.declared.seal.Sealing.{Sealing}
-use Rattle.session.specs.declared.check.Checking.{Checking}
+use Rattle.session.specs.Sessions.{sealing, checking, Kind}
+use Rattle.session.specs.Seen.{Session, Sealing, Checking, Step, Closing as Close}
 
 -- a close with the runs that it reports
 abbrev pub close_with : {S : Type 0} → Step S → ℕ → Close S

@@ -1,3 +1,4 @@
+pub mod Seen
 pub mod Sessions
 pub mod Offered
 pub mod Refusals

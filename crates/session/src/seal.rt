@@ -12,12 +12,24 @@ use places::terms::{Edition, Terms};
 use places::{BEHIND_ALL, Label, Part, Place, after, close_answer, exact, piece_answer, rank};
 use rules::{FRONT, HEADER_MARK, TRAILER_MARK};
 use sponge::pieces::{feed, seal};
+use std::marker::Model;
 use words::state::State;
 use words::word::{Word, row_bytes};
 
 // A session that seals.
 #[derive(Clone, Copy)]
 pub struct Sealing<W: Word>(pub Session<W>);
+
+// It has a model, of the same fields, so that it is copied where it is passed by value.
+impl<W: Word> Model for Sealing<W> {
+    ghost use Rattle.session.specs.Seen.{Sealing};
+
+    ghost Value = { Sealing W };
+
+    ghost view = { λ s. record { 0 = s.0 } };
+
+    ghost inverse = { λ v. record { 0 = v.0 } };
+}
 
 // The state after a piece that is accepted; of a body piece the ciphertext is written.
 fn taken_at<W: Word>(s: State<W>, p: Place, part: Part, bytes: &[u8], out: &mut [u8]) -> State<W>

@@ -10,6 +10,7 @@ use answers::Refusal;
 use blocks::ends::row;
 use places::terms::Terms;
 use places::{Place, closed_place, fresh_place, start_answer};
+use std::marker::Model;
 use words::state::{Row, State};
 use words::word::{Word, row_bytes};
 
@@ -21,11 +22,33 @@ pub struct Session<W: Word> {
     pub place: Place,
 }
 
+// It has a model, of the same fields, so that it is copied where it is passed by value.
+impl<W: Word> Model for Session<W> {
+    ghost use Rattle.session.specs.Seen.{Session};
+
+    ghost Value = { Session W };
+
+    ghost view = { λ s. record { state = s.state; key = s.key; place = s.place } };
+
+    ghost inverse = { λ v. record { state = v.state; key = v.key; place = v.place } };
+}
+
 // What a start or a piece answers, and the session to go on with.
 #[derive(Clone, Copy)]
 pub struct Step<S> {
     pub answer: Result<(), Refusal>,
     pub session: S,
+}
+
+// It has a model, of the same fields, so that it is copied where it is passed by value.
+impl<S> Model for Step<S> {
+    ghost use Rattle.session.specs.Seen.{Step};
+
+    ghost Value = { Step S };
+
+    ghost view = { λ s. record { answer = s.answer; session = s.session } };
+
+    ghost inverse = { λ v. record { answer = v.answer; session = v.session } };
 }
 
 // What a close answers, how many times P ran in the whole sealing, and the session to go on with.
@@ -34,6 +57,17 @@ pub struct Close<S> {
     pub answer: Result<(), Refusal>,
     pub runs: u32,
     pub session: S,
+}
+
+// It has a model, of the same fields, so that it is copied where it is passed by value.
+impl<S> Model for Close<S> {
+    ghost use Rattle.session.specs.Seen.{Closing};
+
+    ghost Value = { Closing S };
+
+    ghost view = { λ s. record { answer = s.answer; runs = s.runs; session = s.session } };
+
+    ghost inverse = { λ v. record { answer = v.answer; runs = v.runs; session = v.session } };
 }
 
 impl<W: Word> Session<W> {

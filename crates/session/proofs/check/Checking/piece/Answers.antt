@@ -9,7 +9,9 @@ pub taken_at-requires : goal.taken_at-requires
 taken_at-requires g c =
     let K = checking_of g.row.W.Denot g.W.Word.width in
     let x = c.args in
-    let found : PieceFound K x.self.now x.label x.bytes.now [] = record {
+    let i = c.self-inside.inside.0.0 in
+    let s = K.make i.place i.state i.key in
+    let found : PieceFound K s x.label x.bytes.now [] = record {
       place = _;
       exact = _;
       answer = _;
@@ -17,13 +19,15 @@ taken_at-requires g c =
       exact_is = refl;
       answer_is = c.piece_answer-answer.ensures;
     } in
-    piece_accepted K x.self.now x.label x.bytes.now [] found (found_done c.piece_answer-answer.result c.is_err.ensures.value c.if-is_err.false)
+    piece_accepted K s x.label x.bytes.now [] found (found_done c.piece_answer-answer.result c.is_err.ensures.value c.if-is_err.false)
 
 pub returns : goal.returns
 returns g c =
     let K = checking_of g.row.W.Denot g.W.Word.width in
     let x = c.args in
-    let found : PieceFound K x.self.now x.label x.bytes.now [] = record {
+    let i = c.self-inside.inside.0.0 in
+    let s = K.make i.place i.state i.key in
+    let found : PieceFound K s x.label x.bytes.now [] = record {
       place = _;
       exact = _;
       answer = _;
@@ -31,7 +35,7 @@ returns g c =
       exact_is = refl;
       answer_is = c.piece_answer-answer.ensures;
     } in
-    let made : PieceMade K x.self.now x.label x.bytes.now x.self.now.0.place = record {
+    let made : PieceMade K s x.label x.bytes.now s.0.place = record {
       state = _;
       place = _;
       session = _;
@@ -39,13 +43,15 @@ returns g c =
       place_is = c.after.ensures;
       session_is = refl;
     } in
-    piece_taken K x.self.now x.label x.bytes.now [] found (found_done c.piece_answer-answer.result c.is_err.ensures.value c.if-is_err.false) made
+    rw (← c.self.view_is, ← c.self-inside.view_is) (piece_taken K s x.label x.bytes.now [] found (found_done c.piece_answer-answer.result c.is_err.ensures.value c.if-is_err.false) made)
 
 pub returns-then-is_err : goal.returns-then-is_err
 returns-then-is_err g c =
     let K = checking_of g.row.W.Denot g.W.Word.width in
     let x = c.args in
-    let found : PieceFound K x.self.now x.label x.bytes.now [] = record {
+    let i = c.self-inside.inside.0.0 in
+    let s = K.make i.place i.state i.key in
+    let found : PieceFound K s x.label x.bytes.now [] = record {
       place = _;
       exact = _;
       answer = _;
@@ -53,4 +59,4 @@ returns-then-is_err g c =
       exact_is = refl;
       answer_is = c.piece_answer-answer.ensures;
     } in
-    piece_kept K x.self.now x.label x.bytes.now [] found (found_refused c.piece_answer-answer.result c.is_err.ensures.value c.if-is_err.true)
+    rw (← c.self.view_is, ← c.self-inside.view_is) (piece_kept K s x.label x.bytes.now [] found (found_refused c.piece_answer-answer.result c.is_err.ensures.value c.if-is_err.true))

@@ -6,4 +6,4 @@ use Rattle.session.proofs.seal.Sealing.start.Goals as goal
 pub returns : goal.returns
 returns g c =
     let x = c.args in
-    ap as_sealing c.start-answer.ensures ∙ starts_sealing g.row.W.Denot g.W.Word.width x.key.now x.nonce.now x.terms
+    ap as_sealing (c.answer.view_is ∙ c.start.ensures) ∙ starts_sealing g.row.W.Denot g.W.Word.width x.key.now x.nonce.now x.terms
