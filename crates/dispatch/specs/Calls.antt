@@ -11,7 +11,7 @@ use Rattle.places.specs.declared.Part.TheVariants.{Note, Body, Trailer}
 use Rattle.places.specs.declared.Standing.{Standing}
 use Rattle.places.specs.declared.Standing.TheVariants.{Closed, Open}
 use Rattle.sealing.specs.Widths.{seal_answer_at, seal_runs_at, seal_out_at, open_answer_at, open_runs_at, open_out_at}
-use Rattle.held.specs.declared.EitherWidth.{EitherWidth as Held}
+use Rattle.held.specs.declared.EitherSession.{EitherSession as Held}
 use Rattle.session.specs.Seen.{Closing as Close}
 use Rattle.held.specs.Held.{held_start, held_piece, held_piece_out, held_close, held_tag, held_checks, held_put}
 use Rattle.dispatch.specs.declared.Words.{Words}

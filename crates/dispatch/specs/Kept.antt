@@ -4,8 +4,8 @@ use Rattle.answers.specs.Answers.{Answer}
 use Rattle.std.specs.Prelude.{ℕ, cond, List, eqb}
 use Rattle.answers.specs.declared.Outcome.{Outcome}
 use Rattle.session.specs.Seen.{Closing as Close}
-use Rattle.held.specs.declared.EitherWidth.{EitherWidth as Held}
-use Rattle.held.specs.declared.receiver.EitherWidth.{EitherWidth as HeldReceiver}
+use Rattle.held.specs.declared.EitherSession.{EitherSession as Held}
+use Rattle.held.specs.declared.receiver.EitherReceiver.{EitherReceiver as HeldReceiver}
 use Rattle.held.specs.Receivers.{HeldReceiverStep}
 use Rattle.dispatch.specs.declared.Words.{Words}
 use Rattle.dispatch.specs.Calls.{made_call, made_out}

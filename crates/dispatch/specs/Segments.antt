@@ -7,7 +7,7 @@ use Rattle.places.specs.declared.terms.Terms.{Terms}
 use Rattle.cutting.specs.declared.Waiting.{Waiting}
 use Rattle.segments.specs.Segments.{segment_answer_at, segment_runs_at, segment_out_at}
 use Rattle.lists.specs.Written.{write_answer, write_out}
-use Rattle.held.specs.declared.receiver.EitherWidth.{EitherWidth as HeldReceiver}
+use Rattle.held.specs.declared.receiver.EitherReceiver.{EitherReceiver as HeldReceiver}
 use Rattle.held.specs.Receivers.{HeldReceiverStep, held_started, held_taken, held_taken_out, held_put}
 use Rattle.dispatch.specs.declared.Words.{Words}
 use Rattle.dispatch.specs.Calls.{low, stretch_of, terms_of}

@@ -16,7 +16,7 @@ pub struct Kept {
     pub receiver: HeldReceiver,
 }
 
-// It has a model, of the same fields, so that it is copied where it is passed by value.
+// It has a model, of the same fields, so that the check follows a copy that is passed by value.
 impl Model for Kept {
     ghost use Rattle.dispatch.specs.Kept.{Kept};
 
@@ -35,7 +35,7 @@ pub struct KeptStep {
     pub kept: Kept,
 }
 
-// It has a model, of the same fields, so that it is copied where it is passed by value.
+// It has a model, of the same fields, so that the check follows a copy that is passed by value.
 impl Model for KeptStep {
     ghost use Rattle.dispatch.specs.Kept.{KeptStep};
 

@@ -9,8 +9,8 @@ use Rattle.places.specs.declared.Place.{Place}
 use Rattle.session.specs.Sessions.{start_of, piece_of, piece_out, close_of, close_runs, close_tag, closed_of}
 use Rattle.session.specs.Kinds.{plain_of, sealing_of, checking_of, close_with}
 use Rattle.session.specs.Seen.{Session, Step, Closing as Close}
-use Rattle.held.specs.declared.at.EitherKind.{EitherKind as HeldAt}
-use Rattle.held.specs.declared.at.EitherKind.TheVariants.{Seals, Checks}
+use Rattle.held.specs.declared.at.HeldAt.{HeldAt}
+use Rattle.held.specs.declared.at.HeldAt.TheVariants.{Seals, Checks}
 
 -- a session's close, held; and its step, which reports no runs
 abbrev pub held_close_of : {S H : Type 0} → (S → H) → Close S → Close H

@@ -8,8 +8,8 @@ use Rattle.places.specs.declared.Label.{Label}
 use Rattle.places.specs.declared.Place.{Place}
 use Rattle.session.specs.Seen.{Closing as Close}
 use Rattle.held.specs.At.{held_close_of, checks_at, session_at, put_at, word_at, closed_at, start_at, piece_at, piece_out_at, close_at, close_tag_at}
-use Rattle.held.specs.declared.EitherWidth.{EitherWidth as Held}
-use Rattle.held.specs.declared.EitherWidth.TheVariants.{Narrow, Wide}
+use Rattle.held.specs.declared.EitherSession.{EitherSession as Held}
+use Rattle.held.specs.declared.EitherSession.TheVariants.{Narrow, Wide}
 
 -- the closed session of a kind and a width: every number in it is zero
 abbrev pub closed_held : Bool → Bool → Held

@@ -6,8 +6,8 @@ use Rattle.answers.specs.Answers.{Answer}
 use Rattle.places.specs.declared.terms.Terms.{Terms}
 use Rattle.cutting.specs.declared.Waiting.{Waiting}
 use Rattle.segments.specs.Receivers.{Receiving, no_receiving, starts_answer, starts_with, taking_answer, taking_runs, taking_out, after_taking}
-use Rattle.held.specs.declared.receiver.EitherWidth.{EitherWidth as HeldReceiver}
-use Rattle.held.specs.declared.receiver.EitherWidth.TheVariants.{Narrow, Wide}
+use Rattle.held.specs.declared.receiver.EitherReceiver.{EitherReceiver as HeldReceiver}
+use Rattle.held.specs.declared.receiver.EitherReceiver.TheVariants.{Narrow, Wide}
 
 -- what a contract sees of what a call gives
 pub record HeldReceiverStep : Type 0 where

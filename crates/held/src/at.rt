@@ -7,27 +7,12 @@ use places::{Label, Place};
 use session::check::Checking;
 use session::seal::Sealing;
 use session::session::{Close, Session, Step};
-use std::marker::Model;
 use words::word::Word;
 
 #[derive(Clone, Copy)]
-pub struct HeldAt<W: Word>(pub EitherKind<W>);
-
-#[derive(Clone, Copy)]
-pub enum EitherKind<W: Word> {
+pub enum HeldAt<W: Word> {
     Seals(Sealing<W>),
     Checks(Checking<W>),
-}
-
-// A contract sees the session of its kind. It has a model so that it is copied where it is passed by value.
-impl<W: Word> Model for HeldAt<W> {
-    ghost use Rattle.held.specs.declared.at.EitherKind.{EitherKind};
-
-    ghost Value = { EitherKind W };
-
-    ghost view = { λ h. h.0 };
-
-    ghost inverse = { λ v. record { 0 = v } };
 }
 
 impl<W: Word> HeldAt<W> {
@@ -37,9 +22,9 @@ impl<W: Word> HeldAt<W> {
     {
         let session = Session::closed();
         if check {
-            HeldAt(EitherKind::Checks(Checking(session)))
+            HeldAt::Checks(Checking(session))
         } else {
-            HeldAt(EitherKind::Seals(Sealing(session)))
+            HeldAt::Seals(Sealing(session))
         }
     }
 
@@ -53,14 +38,14 @@ impl<W: Word> HeldAt<W> {
             Close {
                 answer,
                 runs: 0,
-                session: HeldAt(EitherKind::Checks(session)),
+                session: HeldAt::Checks(session),
             }
         } else {
             let Step { answer, session } = Sealing::start(key, nonce, terms);
             Close {
                 answer,
                 runs: 0,
-                session: HeldAt(EitherKind::Seals(session)),
+                session: HeldAt::Seals(session),
             }
         }
     }
@@ -71,21 +56,21 @@ impl<W: Word> HeldAt<W> {
         ensures step { result ≡ piece_at W.width self.now label bytes.now out.old }
         ensures output { out.new ≡ piece_out_at W.width self.now label bytes.now out.old }
     {
-        match &self.0 {
-            EitherKind::Seals(s) => {
+        match self {
+            HeldAt::Seals(s) => {
                 let Step { answer, session } = s.piece(label, bytes, out);
                 Close {
                     answer,
                     runs: 0,
-                    session: HeldAt(EitherKind::Seals(session)),
+                    session: HeldAt::Seals(session),
                 }
             }
-            EitherKind::Checks(s) => {
+            HeldAt::Checks(s) => {
                 let Step { answer, session } = s.piece(label, bytes);
                 Close {
                     answer,
                     runs: 0,
-                    session: HeldAt(EitherKind::Checks(session)),
+                    session: HeldAt::Checks(session),
                 }
             }
         }
@@ -97,8 +82,8 @@ impl<W: Word> HeldAt<W> {
         ensures step { result ≡ close_at W.width self.now edition given.now tag.old }
         ensures tag { tag.new ≡ close_tag_at W.width self.now edition tag.old }
     {
-        match &self.0 {
-            EitherKind::Seals(s) => {
+        match self {
+            HeldAt::Seals(s) => {
                 let Close {
                     answer,
                     runs,
@@ -107,10 +92,10 @@ impl<W: Word> HeldAt<W> {
                 Close {
                     answer,
                     runs,
-                    session: HeldAt(EitherKind::Seals(session)),
+                    session: HeldAt::Seals(session),
                 }
             }
-            EitherKind::Checks(s) => {
+            HeldAt::Checks(s) => {
                 let Close {
                     answer,
                     runs,
@@ -119,7 +104,7 @@ impl<W: Word> HeldAt<W> {
                 Close {
                     answer,
                     runs,
-                    session: HeldAt(EitherKind::Checks(session)),
+                    session: HeldAt::Checks(session),
                 }
             }
         }
@@ -129,9 +114,9 @@ impl<W: Word> HeldAt<W> {
     pub fn checks(&self) -> bool
         ensures { result ≡ checks_at self.now }
     {
-        match &self.0 {
-            EitherKind::Seals(_) => false,
-            EitherKind::Checks(_) => true,
+        match self {
+            HeldAt::Seals(_) => false,
+            HeldAt::Checks(_) => true,
         }
     }
 
@@ -139,9 +124,9 @@ impl<W: Word> HeldAt<W> {
     pub fn session(&self) -> Session<W>
         ensures { result ≡ session_at self.now }
     {
-        match &self.0 {
-            EitherKind::Seals(s) => s.0,
-            EitherKind::Checks(s) => s.0,
+        match self {
+            HeldAt::Seals(s) => s.0,
+            HeldAt::Checks(s) => s.0,
         }
     }
 
@@ -151,9 +136,9 @@ impl<W: Word> HeldAt<W> {
     {
         let Session { state, key, .. } = self.session();
         let session = Session { state, key, place };
-        match &self.0 {
-            EitherKind::Seals(_) => HeldAt(EitherKind::Seals(Sealing(session))),
-            EitherKind::Checks(_) => HeldAt(EitherKind::Checks(Checking(session))),
+        match self {
+            HeldAt::Seals(_) => HeldAt::Seals(Sealing(session)),
+            HeldAt::Checks(_) => HeldAt::Checks(Checking(session)),
         }
     }
 

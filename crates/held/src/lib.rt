@@ -3,7 +3,7 @@
 
 ghost use Rattle.std.specs.Prelude.{◌≡◌};
 ghost use Rattle.held.specs.At.{held_close_of};
-ghost use Rattle.held.specs.declared.EitherWidth.TheVariants.{Narrow, Wide};
+ghost use Rattle.held.specs.declared.EitherSession.TheVariants.{Narrow, Wide};
 ghost use Rattle.held.specs.Held.{closed_held, held_start, held_piece, held_piece_out, held_close, held_tag, held_wide, held_place, held_checks, held_put, held_word};
 
 use at::HeldAt;
@@ -16,19 +16,19 @@ pub mod at;
 pub mod receiver;
 
 #[derive(Clone, Copy)]
-pub struct Held(pub EitherWidth);
+pub struct Held(pub EitherSession);
 
 #[derive(Clone, Copy)]
-pub enum EitherWidth {
+pub enum EitherSession {
     Narrow(HeldAt<u32>),
     Wide(HeldAt<u64>),
 }
 
-// A contract sees the session at its width. It has a model so that it is copied where it is passed by value.
+// A contract sees the enum. It is a struct with a model so that the check follows a copy that is passed by value.
 impl Model for Held {
-    ghost use Rattle.held.specs.declared.EitherWidth.{EitherWidth};
+    ghost use Rattle.held.specs.declared.EitherSession.{EitherSession};
 
-    ghost Value = { EitherWidth };
+    ghost Value = { EitherSession };
 
     ghost view = { λ h. h.0 };
 
@@ -41,9 +41,9 @@ impl Held {
         ensures { result ≡ closed_held check wide }
     {
         if wide {
-            Held(EitherWidth::Wide(HeldAt::closed(check)))
+            Held(EitherSession::Wide(HeldAt::closed(check)))
         } else {
-            Held(EitherWidth::Narrow(HeldAt::closed(check)))
+            Held(EitherSession::Narrow(HeldAt::closed(check)))
         }
     }
 
@@ -66,8 +66,8 @@ impl Held {
         ensures output { out.new ≡ held_piece_out self.now label bytes.now out.old }
     {
         match &self.0 {
-            EitherWidth::Narrow(h) => with_narrow(h.piece(label, bytes, out)),
-            EitherWidth::Wide(h) => with_wide(h.piece(label, bytes, out)),
+            EitherSession::Narrow(h) => with_narrow(h.piece(label, bytes, out)),
+            EitherSession::Wide(h) => with_wide(h.piece(label, bytes, out)),
         }
     }
 
@@ -78,8 +78,8 @@ impl Held {
         ensures tag { tag.new ≡ held_tag self.now edition tag.old }
     {
         match &self.0 {
-            EitherWidth::Narrow(h) => with_narrow(h.close(edition, given, tag)),
-            EitherWidth::Wide(h) => with_wide(h.close(edition, given, tag)),
+            EitherSession::Narrow(h) => with_narrow(h.close(edition, given, tag)),
+            EitherSession::Wide(h) => with_wide(h.close(edition, given, tag)),
         }
     }
 
@@ -88,8 +88,8 @@ impl Held {
         ensures { result ≡ held_wide self.now }
     {
         match &self.0 {
-            EitherWidth::Narrow(_) => false,
-            EitherWidth::Wide(_) => true,
+            EitherSession::Narrow(_) => false,
+            EitherSession::Wide(_) => true,
         }
     }
 
@@ -98,8 +98,8 @@ impl Held {
         ensures { result ≡ held_place self.now }
     {
         match &self.0 {
-            EitherWidth::Narrow(h) => h.session().place,
-            EitherWidth::Wide(h) => h.session().place,
+            EitherSession::Narrow(h) => h.session().place,
+            EitherSession::Wide(h) => h.session().place,
         }
     }
 
@@ -108,8 +108,8 @@ impl Held {
         ensures { result ≡ held_checks self.now }
     {
         match &self.0 {
-            EitherWidth::Narrow(h) => h.checks(),
-            EitherWidth::Wide(h) => h.checks(),
+            EitherSession::Narrow(h) => h.checks(),
+            EitherSession::Wide(h) => h.checks(),
         }
     }
 
@@ -118,8 +118,8 @@ impl Held {
         ensures { result ≡ held_put self.now place }
     {
         match &self.0 {
-            EitherWidth::Narrow(h) => Held(EitherWidth::Narrow(h.put(place))),
-            EitherWidth::Wide(h) => Held(EitherWidth::Wide(h.put(place))),
+            EitherSession::Narrow(h) => Held(EitherSession::Narrow(h.put(place))),
+            EitherSession::Wide(h) => Held(EitherSession::Wide(h.put(place))),
         }
     }
 
@@ -129,8 +129,8 @@ impl Held {
         ensures { result ≡ held_word self.now i }
     {
         match &self.0 {
-            EitherWidth::Narrow(h) => h.word(i),
-            EitherWidth::Wide(h) => h.word(i),
+            EitherSession::Narrow(h) => h.word(i),
+            EitherSession::Wide(h) => h.word(i),
         }
     }
 }
@@ -141,7 +141,7 @@ fn with_narrow(close: Close<HeldAt<u32>>) -> Close<Held>
     Close {
         answer: close.answer,
         runs: close.runs,
-        session: Held(EitherWidth::Narrow(close.session)),
+        session: Held(EitherSession::Narrow(close.session)),
     }
 }
 
@@ -151,6 +151,6 @@ fn with_wide(close: Close<HeldAt<u64>>) -> Close<Held>
     Close {
         answer: close.answer,
         runs: close.runs,
-        session: Held(EitherWidth::Wide(close.session)),
+        session: Held(EitherSession::Wide(close.session)),
     }
 }

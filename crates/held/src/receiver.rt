@@ -1,7 +1,7 @@
 // A receiver of either width: for programs that are told by data which it is.
 ghost use Rattle.std.specs.Prelude.{◌≡◌};
 ghost use Rattle.held.specs.Receivers.{held_none, held_started, held_taken, held_taken_out, held_waiting, held_put};
-ghost use Rattle.held.specs.declared.receiver.EitherWidth.TheVariants.{Narrow, Wide};
+ghost use Rattle.held.specs.declared.receiver.EitherReceiver.TheVariants.{Narrow, Wide};
 
 use answers::Refusal;
 use cutting::Waiting;
@@ -10,19 +10,19 @@ use segments::receiver::{Receiver, ReceiverStep, ReceiverTake};
 use std::marker::Model;
 
 #[derive(Clone, Copy)]
-pub struct HeldReceiver(pub EitherWidth);
+pub struct HeldReceiver(pub EitherReceiver);
 
 #[derive(Clone, Copy)]
-pub enum EitherWidth {
+pub enum EitherReceiver {
     Narrow(Receiver<u32>),
     Wide(Receiver<u64>),
 }
 
-// A contract sees the receiver at its width. It has a model so that it is copied where it is passed by value.
+// A contract sees the enum. It is a struct with a model so that the check follows a copy that is passed by value.
 impl Model for HeldReceiver {
-    ghost use Rattle.held.specs.declared.receiver.EitherWidth.{EitherWidth};
+    ghost use Rattle.held.specs.declared.receiver.EitherReceiver.{EitherReceiver};
 
-    ghost Value = { EitherWidth };
+    ghost Value = { EitherReceiver };
 
     ghost view = { λ h. h.0 };
 
@@ -37,7 +37,7 @@ pub struct HeldReceiverStep {
     pub receiver: HeldReceiver,
 }
 
-// It has a model, of the same fields, so that it is copied where it is passed by value.
+// It has a model, of the same fields, so that the check follows a copy that is passed by value.
 impl Model for HeldReceiverStep {
     ghost use Rattle.held.specs.Receivers.{HeldReceiverStep};
 
@@ -54,9 +54,9 @@ impl HeldReceiver {
         ensures { result ≡ held_none wide }
     {
         if wide {
-            HeldReceiver(EitherWidth::Wide(Receiver::none()))
+            HeldReceiver(EitherReceiver::Wide(Receiver::none()))
         } else {
-            HeldReceiver(EitherWidth::Narrow(Receiver::none()))
+            HeldReceiver(EitherReceiver::Narrow(Receiver::none()))
         }
     }
 
@@ -79,7 +79,7 @@ impl HeldReceiver {
         ensures output { out.new ≡ held_taken_out self.now note.now last sealed.now out.old }
     {
         match &self.0 {
-            EitherWidth::Narrow(r) => {
+            EitherReceiver::Narrow(r) => {
                 let ReceiverTake {
                     answer,
                     runs,
@@ -88,10 +88,10 @@ impl HeldReceiver {
                 HeldReceiverStep {
                     answer,
                     runs,
-                    receiver: HeldReceiver(EitherWidth::Narrow(receiver)),
+                    receiver: HeldReceiver(EitherReceiver::Narrow(receiver)),
                 }
             }
-            EitherWidth::Wide(r) => {
+            EitherReceiver::Wide(r) => {
                 let ReceiverTake {
                     answer,
                     runs,
@@ -100,7 +100,7 @@ impl HeldReceiver {
                 HeldReceiverStep {
                     answer,
                     runs,
-                    receiver: HeldReceiver(EitherWidth::Wide(receiver)),
+                    receiver: HeldReceiver(EitherReceiver::Wide(receiver)),
                 }
             }
         }
@@ -111,8 +111,8 @@ impl HeldReceiver {
         ensures { result ≡ held_waiting self.now }
     {
         match &self.0 {
-            EitherWidth::Narrow(r) => r.waiting,
-            EitherWidth::Wide(r) => r.waiting,
+            EitherReceiver::Narrow(r) => r.waiting,
+            EitherReceiver::Wide(r) => r.waiting,
         }
     }
 
@@ -121,15 +121,15 @@ impl HeldReceiver {
         ensures { result ≡ held_put self.now waiting rounds }
     {
         match self.0 {
-            EitherWidth::Narrow(mut r) => {
+            EitherReceiver::Narrow(mut r) => {
                 r.waiting = waiting;
                 r.terms.rounds = rounds;
-                HeldReceiver(EitherWidth::Narrow(r))
+                HeldReceiver(EitherReceiver::Narrow(r))
             }
-            EitherWidth::Wide(mut r) => {
+            EitherReceiver::Wide(mut r) => {
                 r.waiting = waiting;
                 r.terms.rounds = rounds;
-                HeldReceiver(EitherWidth::Wide(r))
+                HeldReceiver(EitherReceiver::Wide(r))
             }
         }
     }
@@ -141,7 +141,7 @@ fn started_narrow(step: ReceiverStep<u32>) -> HeldReceiverStep
     HeldReceiverStep {
         answer: step.answer,
         runs: 0,
-        receiver: HeldReceiver(EitherWidth::Narrow(step.receiver)),
+        receiver: HeldReceiver(EitherReceiver::Narrow(step.receiver)),
     }
 }
 
@@ -151,6 +151,6 @@ fn started_wide(step: ReceiverStep<u64>) -> HeldReceiverStep
     HeldReceiverStep {
         answer: step.answer,
         runs: 0,
-        receiver: HeldReceiver(EitherWidth::Wide(step.receiver)),
+        receiver: HeldReceiver(EitherReceiver::Wide(step.receiver)),
     }
 }

@@ -61,7 +61,7 @@ pub struct ReceiverStep<W: Word> {
     pub receiver: Receiver<W>,
 }
 
-// It has a model, of the same fields, so that it is copied where it is passed by value.
+// It has a model, of the same fields, so that the check follows a copy that is passed by value.
 impl<W: Word> Model for ReceiverStep<W> {
     ghost use Rattle.segments.specs.Receivers.{ReceiverStep};
 
@@ -80,7 +80,7 @@ pub struct ReceiverTake<W: Word> {
     pub receiver: Receiver<W>,
 }
 
-// It has a model, of the same fields, so that it is copied where it is passed by value.
+// It has a model, of the same fields, so that the check follows a copy that is passed by value.
 impl<W: Word> Model for ReceiverTake<W> {
     ghost use Rattle.segments.specs.Receivers.{ReceiverTake};
 

@@ -20,6 +20,7 @@ pub record Step (S : Type 0) : Type 0 where
   pub answer : Answer
   pub session : S
 
+-- what a close gives: `Close` of the code, and not the call of that name in Offered.antt
 pub record Closing (S : Type 0) : Type 0 where
   pub answer : Answer
   pub runs : ℕ

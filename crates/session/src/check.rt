@@ -20,7 +20,7 @@ use words::word::{Word, row_bytes};
 #[derive(Clone, Copy)]
 pub struct Checking<W: Word>(pub Session<W>);
 
-// It has a model, of the same fields, so that it is copied where it is passed by value.
+// It has a model, of the same fields, so that the check follows a copy that is passed by value.
 impl<W: Word> Model for Checking<W> {
     ghost use Rattle.session.specs.Seen.{Checking};
 

@@ -22,7 +22,7 @@ pub struct Session<W: Word> {
     pub place: Place,
 }
 
-// It has a model, of the same fields, so that it is copied where it is passed by value.
+// It has a model, of the same fields, so that the check follows a copy that is passed by value.
 impl<W: Word> Model for Session<W> {
     ghost use Rattle.session.specs.Seen.{Session};
 
@@ -40,7 +40,7 @@ pub struct Step<S> {
     pub session: S,
 }
 
-// It has a model, of the same fields, so that it is copied where it is passed by value.
+// It has a model, of the same fields, so that the check follows a copy that is passed by value.
 impl<S> Model for Step<S> {
     ghost use Rattle.session.specs.Seen.{Step};
 
@@ -59,7 +59,7 @@ pub struct Close<S> {
     pub session: S,
 }
 
-// It has a model, of the same fields, so that it is copied where it is passed by value.
+// It has a model, of the same fields, so that the check follows a copy that is passed by value.
 impl<S> Model for Close<S> {
     ghost use Rattle.session.specs.Seen.{Closing};
 
